@@ -329,7 +329,7 @@ def of_show():
         yield f"| {{}} | {meaning}", status("ariadne_show", name)
     yield "the least severity for exit status {}.", status("ariadne_show", "WithErrors")
     yield "the program ends with status {},", status("ariadne_show", "Failed")
-    yield "There are at most {} ranges", found("crates/ariadne_parse/src/spots.rt", r"RANGES: u8 = (\d+);")
+    yield "There are at most {} ranges", found("crates/ariadne_parse/src/locations.rt", r"RANGES: u8 = (\d+);")
     yield "(of the first {})", word(int(found("crates/ariadne_parse/src/lines.rt", r"COLONS: u8 = (\d+);")))
     yield "capital letters and {} digits or more", word(int(found(kinds, r"digits\.len\(\) > (\d+)")) + 1)
     yield "one letter, {} digits and a colon", word(int(found(kinds, r"code\.len\(\) == (\d+) &&")) - 1)

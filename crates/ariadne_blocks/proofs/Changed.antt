@@ -4,31 +4,31 @@ use Rattle.std.specs.Prelude.{Bool, true, false, if◌then◌else◌}
 use Rattle.ariadne_snippets.specs.declared.taken.FixKind.{FixKind}
 use Rattle.ariadne_parse.specs.FixRows.{FixRow}
 use Rattle.ariadne_blocks.specs.Blocks.{fix_row_help, with_help, with_help_of_row, with_reason, View}
-use Rattle.ariadne_blocks.specs.FixChanges.{column_of, is_told_in, kind_of}
+use Rattle.ariadne_blocks.specs.FixChanges.{column_of, is_parsed_in, kind_of}
 use Rattle.ariadne_blocks.specs.HelpFixes.{fix_text}
 
 -- a change that may be told already
 with_change : FixRow → View → FixKind × List ℕ → View
 with_change row view change =
-    if is_told_in view.changes row.start.line change.0 change.1 then view
+    if is_parsed_in view.changes row.start.line change.0 change.1 then view
     else with_help (fix_row_help row change) (with_reason view)
 
 -- it is
-pub told_already : (row : FixRow) (view : View) (kind : FixKind) (text plain : List ℕ)
-    → (kind, text) ≡ kind_of row plain → is_told_in view.changes row.start.line kind text ≡ true
+pub parsed_already : (row : FixRow) (view : View) (kind : FixKind) (text plain : List ℕ)
+    → (kind, text) ≡ kind_of row plain → is_parsed_in view.changes row.start.line kind text ≡ true
     → view ≡ with_help_of_row row plain view
 unfolding with_change
-told_already row view kind text plain is told =
-    ap (λ (b : Bool). if b then view else with_help (fix_row_help row (kind, text)) (with_reason view)) (sym told)
+parsed_already row view kind text plain is parsed =
+    ap (λ (b : Bool). if b then view else with_help (fix_row_help row (kind, text)) (with_reason view)) (sym parsed)
     ∙ ap (with_change row view) is
 
 -- it isn't
-pub told_now : (row : FixRow) (view : View) (kind : FixKind) (text plain : List ℕ)
-    → (kind, text) ≡ kind_of row plain → is_told_in view.changes row.start.line kind text ≡ false
+pub parsed_now : (row : FixRow) (view : View) (kind : FixKind) (text plain : List ℕ)
+    → (kind, text) ≡ kind_of row plain → is_parsed_in view.changes row.start.line kind text ≡ false
     → with_help (fix_row_help row (kind, text)) (with_reason view) ≡ with_help_of_row row plain view
 unfolding with_change
-told_now row view kind text plain is told =
-    ap (λ (b : Bool). if b then view else with_help (fix_row_help row (kind, text)) (with_reason view)) (sym told)
+parsed_now row view kind text plain is parsed =
+    ap (λ (b : Bool). if b then view else with_help (fix_row_help row (kind, text)) (with_reason view)) (sym parsed)
     ∙ ap (with_change row view) is
 
 -- the help that is added says what the row says

@@ -12,11 +12,11 @@ joined_next first now more line lines all so_far push step =
     ∙ ap (message_with first) (sym step)
 
 -- a diagnostic with some lines, and with none
-pub with_some : (texts : List (List ℕ)) (told : Telling) → 0 < length texts
-    → parted (record told { message = message_with told.message texts }) ≡ with_lines texts told
-with_some [] told h = absurd (omega arith)
-with_some (text ∷ texts) told h = refl
+pub with_some : (texts : List (List ℕ)) (parsed : Telling) → 0 < length texts
+    → parted (record parsed { message = message_with parsed.message texts }) ≡ with_lines texts parsed
+with_some [] parsed h = absurd (omega arith)
+with_some (text ∷ texts) parsed h = refl
 
-pub with_none : (texts : List (List ℕ)) (told : Telling) → length texts ≡ 0 → told ≡ with_lines texts told
-with_none [] told h = refl
-with_none (text ∷ texts) told h = absurd (omega arith)
+pub with_none : (texts : List (List ℕ)) (parsed : Telling) → length texts ≡ 0 → parsed ≡ with_lines texts parsed
+with_none [] parsed h = refl
+with_none (text ∷ texts) parsed h = absurd (omega arith)

@@ -29,10 +29,10 @@ pub first_mapped : {A B : Type 0} (f : A → B) (xs : List A)
 first_mapped f [] = refl
 first_mapped f (x ∷ xs) = refl
 
--- the one at a place
-pub place_mapped : {A B : Type 0} (f : A → B) (xs : List A) (i : ℕ)
+-- the one at a span
+pub span_mapped : {A B : Type 0} (f : A → B) (xs : List A) (i : ℕ)
     → slice_get (map f xs) i ≡ option_map f (slice_get xs i)
-place_mapped f xs i = slice_get-map f xs i
+span_mapped f xs i = slice_get-map f xs i
 
 -- how many there are
 pub length_mapped : {A B : Type 0} (f : A → B) (xs : List A) → length (map f xs) ≡ length xs

@@ -1,19 +1,19 @@
--- Places are settled one after the other.
+-- Spans are settled one after the other.
 use Rattle.std.proofs.Common.{◌≡◌, ◌∙◌, ℕ, ◌+◌, ◌<◌, ◌≤◌, List, [], ◌∷◌, ◌++◌, length, get_or, set, take, drop, refl, ap, sym}
 use Rattle.std.specs.Prelude.{Bool, false, cond, not, ◌||◌, map, is_some, option_map, Option, None, Some}
 use Rattle.std.specs.List.{find, flat_map}
 use Rattle.std.specs.Option.{option_copied, option_or}
 use Rattle.std.specs.Borrow.{Bor}
 use Rattle.std.proofs.lemmas.List.{flat_map_more, take_all, take_more_set}
-use Rattle.ariadne_parse.specs.Places.{seen, Seen}
-use Rattle.ariadne_parse.specs.declared.diagnostic.Place.{Place}
+use Rattle.ariadne_parse.specs.Spans.{seen, Seen}
+use Rattle.ariadne_parse.specs.declared.diagnostic.Span.{Span}
 use Rattle.std.proofs.lemmas.List.Folds.{find-append}
 use Rattle.ariadne_blocks.specs.declared.drawn.Drawn.{Drawn}
-use Rattle.ariadne_blocks.specs.MarkedSpots.{all_settled, are_at, marks_at, marks_of, settled, with_found, Marks}
+use Rattle.ariadne_blocks.specs.MarkedLocations.{all_settled, are_at, marks_at, marks_of, settled, with_found, Marks}
 use Rattle.ariadne_blocks.proofs.Lists.{find_mapped, pushed, written, written_all}
 
--- one place more is settled
-pub settled_next : (before own more : List Marks) (ps : List Place) (i : ℕ) (x y : Place) (all : List Seen)
+-- one span more is settled
+pub settled_next : (before own more : List Marks) (ps : List Span) (i : ℕ) (x y : Span) (all : List Seen)
     → i < length ps → x ≡ get_or ps i x → seen y ≡ settled (own ++ before) (seen x) → more ≡ own ++ marks_at (seen y)
     → map seen (take i ps) ++ all_settled own before (map seen (drop i ps)) ≡ all
     → map seen (take (i + 1) (set ps i y)) ++ all_settled more before (map seen (drop (i + 1) (set ps i y))) ≡ all
@@ -26,7 +26,7 @@ settled_next before own more ps i x y all h is now push so_far =
     ∙ so_far
 
 -- and its marks are held
-pub held_next : (own more : List Marks) (ps : List Place) (i : ℕ) (y : Place) → i < length ps
+pub held_next : (own more : List Marks) (ps : List Span) (i : ℕ) (y : Span) → i < length ps
     → own ≡ flat_map marks_at (map seen (take i ps)) → more ≡ own ++ marks_at (seen y)
     → more ≡ flat_map marks_at (map seen (take (i + 1) (set ps i y)))
 held_next own more ps i y h so_far push =
@@ -35,15 +35,15 @@ held_next own more ps i y h so_far push =
     ∙ ap (flat_map marks_at) (sym (pushed seen (take i ps) (take (i + 1) (set ps i y)) y (take_more_set ps i y h)))
 
 -- all are settled
-pub settled_all : (before own : List Marks) (ps : List Place) (i : ℕ) (all : List Seen) → length ps ≤ i
+pub settled_all : (before own : List Marks) (ps : List Span) (i : ℕ) (all : List Seen) → length ps ≤ i
     → map seen (take i ps) ++ all_settled own before (map seen (drop i ps)) ≡ all → map seen ps ≡ all
 settled_all before own ps i all h so_far = sym (written_all seen (all_settled own before) ps i h refl) ∙ so_far
 
-pub held_all : (own : List Marks) (ps : List Place) (i : ℕ) → length ps ≤ i
+pub held_all : (own : List Marks) (ps : List Span) (i : ℕ) → length ps ≤ i
     → own ≡ flat_map marks_at (map seen (take i ps)) → own ≡ flat_map marks_at (map seen ps)
 held_all own ps i h so_far = so_far ∙ ap (λ l. flat_map marks_at (map seen l)) (take_all i ps h)
 
--- ---- one place
+-- ---- one span
 
 -- where none of some is found, the first of others is
 both_or : (a b : Option Drawn)
@@ -69,13 +69,13 @@ found_first test own drawn a b r first second is =
     ∙ both_or (option_copied a) (option_copied b)
     ∙ ap (option_map marks_of) (both_copied a b ∙ ap option_copied (sym is))
 
--- a place without marks that names a column has those that were found
-pub settled_by : (drawn : List Marks) (place : Seen) (found : Option Marks)
-    → (is_some place.marks || not (is_some place.caret.column)) ≡ false → find (are_at place) drawn ≡ found
-    → with_found place found ≡ settled drawn place
-settled_by drawn place found none is =
-    ap (with_found place) (sym is)
-    ∙ sym (ap (λ b. cond b place (with_found place (find (are_at place) drawn))) none)
+-- a span without marks that names a column has those that were found
+pub settled_by : (drawn : List Marks) (span : Seen) (found : Option Marks)
+    → (is_some span.marks || not (is_some span.caret.column)) ≡ false → find (are_at span) drawn ≡ found
+    → with_found span found ≡ settled drawn span
+settled_by drawn span found none is =
+    ap (with_found span) (sym is)
+    ∙ sym (ap (λ b. cond b span (with_found span (find (are_at span) drawn))) none)
 
 -- it has none, and names a column
 pub is_open : {A B : Type 0} (a : Option A) (b : Option B) (p q : Bool) → p ≡ is_some a → is_some b ≡ not q → p ≡ false

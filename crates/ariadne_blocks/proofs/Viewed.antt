@@ -3,9 +3,9 @@ use Rattle.std.proofs.Common.{◌≡◌, ◌∙◌, ℕ, List, refl, ap, sym}
 use Rattle.std.specs.Prelude.{Bool, map, slice_get, is_some, Option, None, Some, option_map}
 use Rattle.std.specs.Option.{option_copied}
 use Rattle.std.specs.Borrow.{Bor}
-use Rattle.ariadne_parse.specs.Places.{seen}
-use Rattle.ariadne_parse.specs.declared.diagnostic.Place.{Place}
-use Rattle.ariadne_blocks.specs.Blocks.{first_file, first_line, for_programs, of_file, of_message, of_no_place, of_snippet, IsRow, View}
+use Rattle.ariadne_parse.specs.Spans.{seen}
+use Rattle.ariadne_parse.specs.declared.diagnostic.Span.{Span}
+use Rattle.ariadne_blocks.specs.Blocks.{first_file, first_line, for_programs, of_file, of_message, of_no_span, of_snippet, IsRow, View}
 use Rattle.ariadne_blocks.specs.Files.{file_at, line_at, File}
 use Rattle.ariadne_blocks.specs.GoingOn.{behind_head}
 use Rattle.ariadne_blocks.specs.Telling.{Telling}
@@ -14,15 +14,15 @@ use Rattle.ariadne_blocks.specs.declared.line.Line.{Line}
 use Rattle.ariadne_blocks.proofs.Lists.{first_mapped}
 
 -- views are the same whose parts are
-pub same_view : (v w : View) → v.told ≡ w.told → v.path ≡ w.path → v.at ≡ w.at → v.marked ≡ w.marked
+pub same_view : (v w : View) → v.parsed ≡ w.parsed → v.path ≡ w.path → v.at ≡ w.at → v.marked ≡ w.marked
     → v.behind ≡ w.behind → v.goes_on ≡ w.goes_on → v.aside ≡ w.aside → v.named ≡ w.named
     → v.caret ≡ w.caret → v.changes ≡ w.changes → v.since ≡ w.since → v.why ≡ w.why → v ≡ w
-same_view v w told path at marked behind goes_on aside named caret changes since why =
-    ap (λ (t : Telling). record v { told = t }) told
-    ∙ ap (λ t. record v { told = w.told; path = t }) path
-    ∙ ap (λ t. record v { told = w.told; path = w.path; at = t }) at
-    ∙ ap (λ t. record v { told = w.told; path = w.path; at = w.at; marked = t }) marked
-    ∙ ap (λ t. record v { told = w.told; path = w.path; at = w.at; marked = w.marked; behind = t }) behind
+same_view v w parsed path at marked behind goes_on aside named caret changes since why =
+    ap (λ (t : Telling). record v { parsed = t }) parsed
+    ∙ ap (λ t. record v { parsed = w.parsed; path = t }) path
+    ∙ ap (λ t. record v { parsed = w.parsed; path = w.path; at = t }) at
+    ∙ ap (λ t. record v { parsed = w.parsed; path = w.path; at = w.at; marked = t }) marked
+    ∙ ap (λ t. record v { parsed = w.parsed; path = w.path; at = w.at; marked = w.marked; behind = t }) behind
     ∙ ap (λ t. record w { goes_on = t; aside = v.aside; named = v.named; caret = v.caret; changes = v.changes; since = v.since; why = v.why }) goes_on
     ∙ ap (λ t. record w { aside = t; named = v.named; caret = v.caret; changes = v.changes; since = v.since; why = v.why }) aside
     ∙ ap (λ t. record w { named = t; caret = v.caret; changes = v.changes; since = v.since; why = v.why }) named
@@ -47,13 +47,13 @@ row_with_events file line before after has_events (of_snippet text row) =
         view = row.gained.view;
       };
     })
-row_with_events file line before after has_events (of_file told view) = of_file told view
-row_with_events file line before after has_events (of_no_place told view) = of_no_place told view
+row_with_events file line before after has_events (of_file parsed view) = of_file parsed view
+row_with_events file line before after has_events (of_no_span parsed view) = of_no_span parsed view
 row_with_events file line before after has_events (of_message row view) = of_message row view
 row_with_events file line before after has_events (for_programs row view) = for_programs row view
 
--- the file of the first of places
-pub first_path : (ps : List Place) (first : Option (Bor Place)) (path : List ℕ) → option_copied first ≡ slice_get ps 0
+-- the file of the first of spans
+pub first_path : (ps : List Span) (first : Option (Bor Span)) (path : List ℕ) → option_copied first ≡ slice_get ps 0
     → path ≡ file_at (option_map seen (option_copied first)) → path ≡ first_file (map seen ps)
 first_path ps first path is so =
     so ∙ ap file_at (ap (option_map seen) is ∙ sym (first_mapped seen ps))
@@ -63,12 +63,12 @@ pub some_copied : {A : Type 0} (o : Option (Bor A)) → is_some (option_copied o
 some_copied None = refl
 some_copied (Some x) = refl
 
--- the line of the first of places
-pub first_line_is : (ps : List Place) (first : Option (Bor Place)) → option_copied first ≡ slice_get ps 0
+-- the line of the first of spans
+pub first_line_is : (ps : List Span) (first : Option (Bor Span)) → option_copied first ≡ slice_get ps 0
     → line_at (option_map seen (option_copied first)) ≡ first_line (map seen ps)
 first_line_is ps first is = ap line_at (ap (option_map seen) is ∙ sym (first_mapped seen ps))
 
--- how the message of a head about the first of places goes on
-pub first_goes_on : (head : List ℕ) (ps : List Place) (first : Option (Bor Place)) → option_copied first ≡ slice_get ps 0
+-- how the message of a head about the first of spans goes on
+pub first_goes_on : (head : List ℕ) (ps : List Span) (first : Option (Bor Span)) → option_copied first ≡ slice_get ps 0
     → behind_head head (option_map seen (option_copied first)) ≡ behind_head head (slice_get (map seen ps) 0)
 first_goes_on head ps first is = ap (behind_head head) (ap (option_map seen) is ∙ sym (first_mapped seen ps))

@@ -10,7 +10,7 @@ use Rattle.ariadne_parse.specs.TextPieces.{behind, in_front_of, split_once}
 use Rattle.ariadne_blocks.specs.declared.events.EventRow.{EventRow}
 use Rattle.ariadne_blocks.specs.declared.events.EventRow.TheVariants.{File, Frame, Quoting, Telling}
 
--- what such a row is: it tells nothing, or names the file of the next rows, or tells an event that is at no place, or
+-- what such a row is: it tells nothing, or names the file of the next rows, or tells an event that is at no span, or
 -- a row of a snippet stands behind a bar
 pub data Event : Type 0 where
   frame : Event
@@ -18,11 +18,11 @@ pub data Event : Type 0 where
   telling : List ℕ → Event
   quoting : List ℕ → Event
 
-abbrev pub event_told : EventRow → Event
-event_told Frame = frame
-event_told (File file) = in_file file.now
-event_told (Telling event) = telling event.now
-event_told (Quoting row) = quoting row.now
+abbrev pub event_parsed : EventRow → Event
+event_parsed Frame = frame
+event_parsed (File file) = in_file file.now
+event_parsed (Telling event) = telling event.now
+event_parsed (Quoting row) = quoting row.now
 
 -- a text begins with words, or ends with them
 abbrev pub begins_in : List ℕ → List ℕ → Bool
@@ -56,12 +56,12 @@ abbrev pub file_of_line : List ℕ → Option (List ℕ × List ℕ) → Option 
 file_of_line column None = None
 file_of_line column (Some parts) = if are_numbers parts.1 && are_numbers column then Some parts.0 else None
 
-abbrev pub file_of_place : Option (List ℕ × List ℕ) → Option (List ℕ)
-file_of_place None = None
-file_of_place (Some parts) = file_of_line parts.1 (rsplit_once 58 parts.0)
+abbrev pub file_of_span : Option (List ℕ × List ℕ) → Option (List ℕ)
+file_of_span None = None
+file_of_span (Some parts) = file_of_line parts.1 (rsplit_once 58 parts.0)
 
 unfoldable pub file_in : List ℕ → Option (List ℕ)
-file_in text = file_of_place (option_and_then (rsplit_once 58) (in_front_of 58 text))
+file_in text = file_of_span (option_and_then (rsplit_once 58) (in_front_of 58 text))
 
 -- a row names gcc's program in place of a file: `cc1:`, `cc1plus:`
 abbrev pub is_of_program : List ℕ → Bool
@@ -83,21 +83,21 @@ abbrev pub is_numbered : List ℕ → Bool
 is_numbered text = is_numbered_by (behind 40 text)
 
 -- the event that a row tells behind a blank
-abbrev pub told_by : Option (List ℕ) → Option (List ℕ)
-told_by None = None
-told_by (Some event) = if is_numbered event then Some event else None
+abbrev pub parsed_by : Option (List ℕ) → Option (List ℕ)
+parsed_by None = None
+parsed_by (Some event) = if is_numbered event then Some event else None
 
-abbrev pub told_in : List ℕ → Option (List ℕ)
-told_in row = told_by (behind 32 row)
+abbrev pub parsed_in : List ℕ → Option (List ℕ)
+parsed_in row = parsed_by (behind 32 row)
 
 -- what stands behind a bar; a bar alone tells nothing, and so does the program's name
 abbrev pub event_by : List ℕ → Option (List ℕ) → Option (List ℕ) → Event
 event_by row None None = quoting row
 event_by row None (Some event) = telling event
-event_by row (Some file) told = in_file file
+event_by row (Some file) parsed = in_file file
 
 abbrev pub event_of_row : List ℕ → Event
-event_of_row row = event_by row (file_in row) (told_in row)
+event_of_row row = event_by row (file_in row) (parsed_in row)
 
 abbrev pub event_behind : Option (List ℕ) → Option Event
 event_behind None = None

@@ -10,7 +10,7 @@ use Rattle.ariadne_parse.specs.declared.unit.Unit.TheVariants.{Byte, Char, Displ
 use Rattle.ariadne_snippets.specs.Snippets.{number_quoted}
 use Rattle.ariadne_snippets.specs.declared.snippet.Snippet.{Snippet}
 use Rattle.ariadne_snippets.specs.declared.taken.Point.{Point}
-use Rattle.ariadne_parse.specs.Places.{Seen}
+use Rattle.ariadne_parse.specs.Spans.{Seen}
 use Rattle.ariadne_blocks.specs.declared.file.QuotedFile.{QuotedFile}
 
 -- its characters, what a column in bytes counts in it, and how many lines stand above those that are held
@@ -62,15 +62,15 @@ column_in (Some file) unit at = column_in_file file unit at
 abbrev pub source_in : Option File → Option ℕ → Option (List ℕ)
 source_in file number = option_and_then (λ file. option_and_then (line_in file) number) file
 
--- the path of the file of a place, if there is one
+-- the path of the file of a span, if there is one
 abbrev pub file_at : Option Seen → List ℕ
 file_at None = []
-file_at (Some place) = place.file
+file_at (Some span) = span.file
 
 -- the line that it begins in; 0 where there is none
 abbrev pub line_at : Option Seen → ℕ
 line_at None = 0
-line_at (Some place) = place.start.line
+line_at (Some span) = span.start.line
 
 -- a text begins with a digit, behind white space
 abbrev pub begins_with_number : List ℕ → Bool

@@ -11,10 +11,10 @@ use Rattle.ariadne_snippets.specs.declared.taken.FixKind.{FixKind}
 use Rattle.ariadne_snippets.specs.declared.taken.FixKind.TheVariants.{Put, PutLine, Become, Remove}
 use Rattle.ariadne_parse.specs.FixRows.{FixRow}
 use Rattle.ariadne_parse.specs.TextPieces.{in_front_of, in_front_of_text}
-use Rattle.ariadne_blocks.specs.MarkedSpots.{is_same_spot}
+use Rattle.ariadne_blocks.specs.MarkedLocations.{is_same_location}
 use Rattle.ariadne_blocks.specs.declared.fix_rows.Escape.{Escape}
 use Rattle.ariadne_blocks.specs.declared.fix_rows.Escape.TheVariants.{Closed, Digit, Digits, Open}
-use Rattle.ariadne_blocks.specs.declared.fix_rows.ToldChange.{ToldChange}
+use Rattle.ariadne_blocks.specs.declared.fix_rows.ParsedChange.{ParsedChange}
 
 -- ---- changes that are told already
 
@@ -25,16 +25,16 @@ is_removal Put = false
 is_removal PutLine = false
 is_removal Become = false
 
-abbrev pub told_change : Fix → ToldChange
-told_change fix = record { line = fix.at.line; is_removal = is_removal fix.kind }
+abbrev pub parsed_change : Fix → ParsedChange
+parsed_change fix = record { line = fix.at.line; is_removal = is_removal fix.kind }
 
 -- a change is in this line, and removes something where this kind does
-abbrev pub is_like : ℕ → FixKind → ToldChange → Bool
+abbrev pub is_like : ℕ → FixKind → ParsedChange → Bool
 is_like line kind change = change.line == line && beq change.is_removal (is_removal kind)
 
 -- one of this kind in a line, with this text, is told by one of these
-abbrev pub is_told_in : List ToldChange → ℕ → FixKind → List ℕ → Bool
-is_told_in changes line kind text = not (list_any (λ c. c == 10) text) && list_any (is_like line kind) changes
+abbrev pub is_parsed_in : List ParsedChange → ℕ → FixKind → List ℕ → Bool
+is_parsed_in changes line kind text = not (list_any (λ c. c == 10) text) && list_any (is_like line kind) changes
 
 -- ---- files
 
@@ -54,7 +54,7 @@ is_first None = false
 is_first (Some column) = column == 1
 
 abbrev pub is_at_line : FixRow → Bool
-is_at_line row = is_same_spot row.start row.end && is_first row.start.column
+is_at_line row = is_same_location row.start row.end && is_first row.start.column
 
 -- what kind of fix it is, and its text without escapes: nothing is put there, or a line without what ends it, or text
 abbrev pub kind_with : FixRow → List ℕ → Option (List ℕ) → FixKind × List ℕ

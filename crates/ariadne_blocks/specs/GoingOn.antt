@@ -1,11 +1,11 @@
 -- How a message goes on in lines of its own: a line of mypy's begins with a word that had no room in the line in
--- front, and a row of rustc's short form stands as far to the right as the message begins behind its place.
+-- front, and a row of rustc's short form stands as far to the right as the message begins behind its span.
 -- Characters stand as their numbers: 32 is a blank, and 58 `:`.
 use Rattle.std.specs.Prelude.{ℕ, ◌+◌, ◌==◌, nat_lt, Bool, false, ◌||◌, if◌then◌else◌, List, chars, codes, drop, length}
 use Rattle.std.specs.Prelude.{Option, None, Some, option_and_then}
 use Rattle.std.specs.List.{ends_with, list_any, prefix_len}
 use Rattle.ariadne_parse.specs.TextPieces.{begins_with, behind, split_once}
-use Rattle.ariadne_parse.specs.Places.{Seen}
+use Rattle.ariadne_parse.specs.Spans.{Seen}
 use Rattle.ariadne_blocks.specs.Messages.{had_no_room, is_of_python}
 use Rattle.ariadne_blocks.specs.declared.goes_on.GoesOn.{GoesOn}
 use Rattle.ariadne_blocks.specs.declared.goes_on.GoesOn.TheVariants.{Cut, Nowhere, Rows}
@@ -28,13 +28,13 @@ as_kind kind =
 -- the kind of a head `FILE:LINE:COLUMN: KIND: MESSAGE`, with the blank in front of it
 unfoldable pub kind_in : List ℕ → Option (List ℕ)
 kind_in head =
-    option_and_then (λ place.
+    option_and_then (λ span.
     option_and_then (λ column.
     option_and_then (λ said.
     option_and_then (λ kind. as_kind kind.0)
     (split_once 58 said.1))
     (split_once 58 column.1))
-    (split_once 58 place.1))
+    (split_once 58 span.1))
     (split_once 58 head)
 
 -- a message stands behind more blanks than its kind has characters, which count that blank: a colon is there too
@@ -42,12 +42,12 @@ abbrev pub behind_kind : Option (List ℕ) → GoesOn
 behind_kind None = Nowhere
 behind_kind (Some kind) = Rows (length kind)
 
--- how the message of a head about a place may go on
+-- how the message of a head about a span may go on
 abbrev pub behind_head : List ℕ → Option Seen → GoesOn
 behind_head head None = Nowhere
-behind_head head (Some place) =
-    if is_of_python place.file then Cut (length (chars head))
-    else (if is_of_rust place.file then behind_kind (kind_in head) else Nowhere)
+behind_head head (Some span) =
+    if is_of_python span.file then Cut (length (chars head))
+    else (if is_of_rust span.file then behind_kind (kind_in head) else Nowhere)
 
 -- ---- lines
 

@@ -1,6 +1,6 @@
 pub mod Blocks
 pub mod Uncolored
-pub mod MarkedSpots
+pub mod MarkedLocations
 pub mod Events
 pub mod Files
 pub mod FixChanges

@@ -33,15 +33,15 @@ message_with message lines = fold joined message lines
 
 -- the code in brackets at the end of a message is parted from it, where none is known
 abbrev pub parted_by : Telling → Option (List ℕ) → Option (List ℕ × List ℕ) → Telling
-parted_by told (Some code) found = told
-parted_by told None None = told
-parted_by told None (Some found) = record told { message = found.0; code = Some found.1 }
+parted_by parsed (Some code) found = parsed
+parted_by parsed None None = parsed
+parted_by parsed None (Some found) = record parsed { message = found.0; code = Some found.1 }
 
 abbrev pub parted : Telling → Telling
-parted told = parted_by told told.code (code_in told.message)
+parted parsed = parted_by parsed parsed.code (code_in parsed.message)
 
 -- a diagnostic whose message goes on with lines, if there are some
 abbrev pub with_lines : List (List ℕ) → Telling → Telling
-with_lines [] told = told
-with_lines (line ∷ lines) told =
-    parted (record told { message = message_with told.message (line ∷ lines) })
+with_lines [] parsed = parsed
+with_lines (line ∷ lines) parsed =
+    parted (record parsed { message = message_with parsed.message (line ∷ lines) })

@@ -7,7 +7,7 @@ use Rattle.ariadne_parse.specs.declared.unit.Unit.TheVariants.{Byte}
 use Rattle.ariadne_parse.specs.FixRows.{FixRow}
 use Rattle.ariadne_parse.specs.Proposed.{gone_on, Edit, Proposed}
 use Rattle.ariadne_parse.specs.declared.diagnostic.Change.{Change}
-use Rattle.ariadne_blocks.specs.declared.fix_rows.ToldChange.{ToldChange}
+use Rattle.ariadne_blocks.specs.declared.fix_rows.ParsedChange.{ParsedChange}
 use Rattle.ariadne_blocks.specs.declared.proposing.Proposing.{Proposing}
 
 -- the change that a row tells, which has this text without escapes
@@ -19,7 +19,7 @@ pub record Way : Type 0 where
   pub helps : ℕ × ℕ
   pub why : List ℕ
   pub file : List ℕ
-  pub drawn : List ToldChange
+  pub drawn : List ParsedChange
 
 abbrev pub way_of : Proposing → Way
 way_of by = record {

@@ -36,7 +36,7 @@ without_last_by text (Some parts) = if is_color parts.1 then parts.0 else text
 unfoldable pub without_last : List ℕ → List ℕ
 without_last text = without_last_by text (rsplit_once 27 text)
 
--- a text without gcc's colours: piece by piece, up to each place where the row is cleared
+-- a text without gcc's colours: piece by piece, up to each span where the row is cleared
 pub data IsBare : List ℕ → List ℕ → Type 0 where
   no_color : {text : List ℕ} → FindsText clear text None → IsBare text text
   one_color : {text bare : List ℕ} (at behind : ℕ) → FindsText clear text (Some (at, behind))

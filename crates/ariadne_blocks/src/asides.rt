@@ -1,15 +1,15 @@
-//! Texts beside the message of a block, and the places that rows name for them.
+//! Texts beside the message of a block, and the spans that rows name for them.
 
 ghost use Rattle.std.specs.Prelude.{◌≡◌, map, option_map, reverse, string_bytes, false, None, OnOk, Some};
 ghost use Rattle.ariadne_parse.specs.Arrows.{arrow_in};
-ghost use Rattle.ariadne_parse.specs.ArrowsTold.{place_of_arrow};
-ghost use Rattle.ariadne_parse.specs.Places.{seen};
+ghost use Rattle.ariadne_parse.specs.ArrowsParsed.{span_of_arrow};
+ghost use Rattle.ariadne_parse.specs.Spans.{seen};
 ghost use Rattle.ariadne_blocks.specs.Blocks as blocks;
 ghost use Rattle.ariadne_blocks.specs.Blocks.{view_of, IsNamed, IsQuotedBy};
 ghost use Rattle.ariadne_blocks.specs.declared.block.Aside.TheVariants as aside;
 
 use crate::block::{Aside, Block};
-use ariadne_parse::{Place, arrow_of, named_place};
+use ariadne_parse::{Span, arrow_of, named_span};
 use std::alloc::{AllocError, Global};
 
 impl Block {
@@ -26,11 +26,11 @@ impl Block {
         self.aside = aside;
         let text = String::from_str(alloc, text)?;
         match aside {
-            Aside::Note => self.told.notes.push(text)?,
+            Aside::Note => self.parsed.notes.push(text)?,
             Aside::Help | Aside::Change => {
-                self.since = self.told.helps.len();
+                self.since = self.parsed.helps.len();
                 self.why = text.clone()?;
-                self.told.helps.push(text)?;
+                self.parsed.helps.push(text)?;
             }
         }
         Ok(())
@@ -42,74 +42,74 @@ impl Block {
         ensures rows { OnOk result (self.new.rows ≡ self.old.rows) }
     {
         match self.aside {
-            Aside::Note => go_on(&mut self.told.notes, "\n", text),
-            Aside::Help | Aside::Change => go_on(&mut self.told.helps, "\n", text),
+            Aside::Note => go_on(&mut self.parsed.notes, "\n", text),
+            Aside::Help | Aside::Change => go_on(&mut self.parsed.helps, "\n", text),
         }
     }
 
-    /// Holds the place that a row names behind an arrow.
+    /// Holds the span that a row names behind an arrow.
     pub(crate) fn name(&mut self, alloc: Global, text: &str) -> Result<(), AllocError>
         ensures view { OnOk result (view_of self.new ≡ record (view_of self.old) {
-          named = option_map place_of_arrow (arrow_in text.now);
+          named = option_map span_of_arrow (arrow_in text.now);
         }) }
         ensures rows { OnOk result (self.new.rows ≡ self.old.rows) }
     {
         self.named = match arrow_of(text) {
-            Some(arrow) => Some(arrow.place(alloc)?),
+            Some(arrow) => Some(arrow.span(alloc)?),
             None => None,
         };
         Ok(())
     }
 
-    /// The place that a row named, if one did. It is then no longer held.
-    pub fn take_named(&mut self) -> Option<Place>
+    /// The span that a row named, if one did. It is then no longer held.
+    pub fn take_named(&mut self) -> Option<Span>
         ensures { IsNamed self.old self.new result }
     {
         self.named.take()
     }
 
-    /// Has the next rows quote the file of a place, and gives the place to the text that was read last, if
+    /// Has the next rows quote the file of a span, and gives the span to the text that was read last, if
     /// it is that of the text. On `Err` there was no memory.
-    pub fn quote(&mut self, place: Place) -> Result<(), AllocError>
-        ensures { OnOk result (IsQuotedBy place self.old self.new) }
+    pub fn quote(&mut self, span: Span) -> Result<(), AllocError>
+        ensures { OnOk result (IsQuotedBy span self.old self.new) }
     {
-        self.rows.path = place.file.clone()?;
-        if place.is_primary {
-            self.place_text(place)?;
+        self.rows.path = span.file.clone()?;
+        if span.is_primary {
+            self.span_text(span)?;
         }
         Ok(())
     }
 
-    /// Tells a place that can't be shown: the text that was read last goes on with it, in a row of its own, if it
+    /// Tells a span that can't be shown: the text that was read last goes on with it, in a row of its own, if it
     /// is that of the text. Else it is a note. On `Err` there was no memory.
-    pub fn tell_place(&mut self, alloc: Global, place: &Place) -> Result<(), AllocError>
+    pub fn tell_span(&mut self, alloc: Global, span: &Span) -> Result<(), AllocError>
         ensures view { OnOk result (view_of self.new
-            ≡ blocks.with_place_told (seen place.now) (view_of self.old)) }
+            ≡ blocks.with_span_parsed (seen span.now) (view_of self.old)) }
         ensures rows { OnOk result (self.new.rows ≡ self.old.rows) }
     {
-        let row = named_place(alloc, place.file.as_str(), place.start, "")?;
-        if place.is_primary {
+        let row = named_span(alloc, span.file.as_str(), span.start, "")?;
+        if span.is_primary {
             self.add_more(row.as_str())
         } else {
             self.add_text(alloc, Aside::Note, row.as_str())
         }
     }
 
-    /// Has the text that was read last be said of a place, and the next marks be of that.
-    fn place_text(&mut self, mut place: Place) -> Result<(), AllocError>
-        ensures { OnOk result (view_of self.new ≡ blocks.with_said (seen place) (view_of self.old)
+    /// Has the text that was read last be said of a span, and the next marks be of that.
+    fn span_text(&mut self, mut span: Span) -> Result<(), AllocError>
+        ensures { OnOk result (view_of self.new ≡ blocks.with_said (seen span) (view_of self.old)
             (reverse (blocks.texts_of (view_of self.old)))) }
     {
         let last = match self.aside {
-            Aside::Note => self.told.notes.pop(),
-            Aside::Help | Aside::Change => self.told.helps.pop(),
+            Aside::Note => self.parsed.notes.pop(),
+            Aside::Help | Aside::Change => self.parsed.helps.pop(),
         };
         if let Some(text) = last {
-            place.text = text;
-            place.is_primary = false;
+            span.text = text;
+            span.is_primary = false;
             self.aside = Aside::Note;
-            self.rows.at = self.told.places.len();
-            self.told.places.push(place)?;
+            self.rows.at = self.parsed.spans.len();
+            self.parsed.spans.push(span)?;
         }
         Ok(())
     }

@@ -3,22 +3,22 @@
 
 ghost use Rattle.std.specs.Prelude.{◌≡◌, map, false, None, IfOk, OnOk, Some};
 ghost use Rattle.ariadne_blocks.specs.Blocks as blocks;
-ghost use Rattle.ariadne_blocks.specs.Blocks.{told_of, IsBegun, IsNoted, IsPlacedBy};
+ghost use Rattle.ariadne_blocks.specs.Blocks.{parsed_of, IsBegun, IsNoted, IsPlacedBy};
 ghost use Rattle.ariadne_blocks.specs.declared.block.Aside.TheVariants as aside;
 
-use crate::fix_rows::ToldChange;
+use crate::fix_rows::ParsedChange;
 use crate::goes_on::GoesOn;
 use crate::message::{MessageLine, is_of_python};
-use crate::places::{are_lines_of, is_line_of, push_note};
 use crate::rows::Rows;
-use ariadne_parse::{Diagnostic, Place};
+use crate::spans::{are_lines_of, is_line_of, push_note};
+use ariadne_parse::{Diagnostic, Span};
 use std::alloc::{AllocError, Global};
 
 /// A diagnostic whose lines are being read.
 #[derive(Debug, Drop)]
 pub struct Block {
     /// What it tells so far.
-    pub(crate) told: Diagnostic,
+    pub(crate) parsed: Diagnostic,
     /// The character that its head points at, if that names a column.
     pub(crate) caret: Option<usize>,
     /// The rows below the head or the note that was read last.
@@ -29,13 +29,13 @@ pub struct Block {
     pub(crate) goes_on: GoesOn,
     /// Which text was read last.
     pub(crate) aside: Aside,
-    /// The place that a row named: the next rows quote its file. It is primary where it is that of the
+    /// The span that a row named: the next rows quote its file. It is primary where it is that of the
     /// text that was read last.
-    pub(crate) named: Option<Place>,
+    pub(crate) named: Option<Span>,
     /// Whether rows of events are read, as gcc's analyzer writes them.
     pub(crate) has_events: bool,
     /// What rows below the head or the note that was read last said how to change.
-    pub(crate) changes: Vec<ToldChange>,
+    pub(crate) changes: Vec<ParsedChange>,
     /// The number of the help from which on helps say what rows change.
     pub(crate) since: usize,
     /// Why: what that help begins with, if it says why.
@@ -55,20 +55,20 @@ pub(crate) enum Aside {
 
 impl Block {
     /// A diagnostic of which the head was read. The tool points at the character `caret` of the line of its
-    /// first place, from 0, if that names a column. On `Err` there was no memory.
+    /// first span, from 0, if that names a column. On `Err` there was no memory.
     pub fn new(
         alloc: Global,
-        told: Diagnostic,
+        parsed: Diagnostic,
         head: &str,
         caret: Option<usize>,
     ) -> Result<Block, AllocError>
-        ensures { IfOk result (λ block. IsBegun told head.now caret block) }
+        ensures { IfOk result (λ block. IsBegun parsed head.now caret block) }
     {
-        let rows = Rows::new(alloc, told.places.first(), 0, caret)?;
-        let goes_on = GoesOn::behind(head, told.places.first());
-        let since = told.helps.len();
+        let rows = Rows::new(alloc, parsed.spans.first(), 0, caret)?;
+        let goes_on = GoesOn::behind(head, parsed.spans.first());
+        let since = parsed.helps.len();
         Ok(Block {
-            told,
+            parsed,
             caret,
             rows,
             more: Vec::new(alloc),
@@ -85,7 +85,7 @@ impl Block {
     /// Takes in a note whose head is the next line, and points at this character. One that names no column,
     /// in the line that this diagnostic is about, or all the lines that this goes over, is a text beside.
     ///
-    /// On `Err` there was no memory for all of its places.
+    /// On `Err` there was no memory for all of its spans.
     pub fn add_note(
         &mut self,
         alloc: Global,
@@ -99,33 +99,33 @@ impl Block {
             return self.add_text(alloc, Aside::Note, note.message.as_str());
         }
         self.aside = Aside::Note;
-        let at = self.told.places.len();
-        self.rows = Rows::new(alloc, note.places.first(), at, caret)?;
+        let at = self.parsed.spans.len();
+        self.rows = Rows::new(alloc, note.spans.first(), at, caret)?;
         self.changes.clear();
-        let since = self.told.helps.len();
+        let since = self.parsed.helps.len();
         self.since = since;
         self.why = String::new(alloc);
-        push_note(&mut self.told.places, note.message, note.places)
+        push_note(&mut self.parsed.spans, note.message, note.spans)
     }
 
-    /// Whether a note is about no place of its own: it names no column, in the line that this diagnostic is
+    /// Whether a note is about no span of its own: it names no column, in the line that this diagnostic is
     /// about, or all the lines that this goes over.
     fn is_beside(&self, note: &Diagnostic) -> bool
-        ensures { result ≡ blocks.is_beside (told_of self.now) note.now }
+        ensures { result ≡ blocks.is_beside (parsed_of self.now) note.now }
     {
-        match (self.told.places.first(), note.places.first()) {
-            (Some(own), Some(place)) => {
-                own.file == place.file && (is_line_of(own, place) || are_lines_of(own, place))
+        match (self.parsed.spans.first(), note.spans.first()) {
+            (Some(own), Some(span)) => {
+                own.file == span.file && (is_line_of(own, span) || are_lines_of(own, span))
             }
             _ => false,
         }
     }
 
-    /// Takes in a place that a line in front of it told. On `Err` there was no memory for it.
-    pub fn add_place(&mut self, place: Place) -> Result<(), AllocError>
-        ensures { OnOk result (IsPlacedBy place self.old self.new) }
+    /// Takes in a span that a line in front of it told. On `Err` there was no memory for it.
+    pub fn add_span(&mut self, span: Span) -> Result<(), AllocError>
+        ensures { OnOk result (IsPlacedBy span self.old self.new) }
     {
-        self.told.places.push(place)?;
+        self.parsed.spans.push(span)?;
         Ok(())
     }
 
@@ -138,12 +138,12 @@ impl Block {
 
     /// Whether a note is about this diagnostic: those of Python's tools are about others of their line.
     pub fn is_about(&self, note: &Diagnostic) -> bool
-        ensures { result ≡ blocks.is_about (told_of self.now) note.now }
+        ensures { result ≡ blocks.is_about (parsed_of self.now) note.now }
     {
-        match (self.told.places.first(), note.places.first()) {
-            (Some(own), Some(place)) => {
-                !is_of_python(place.file.as_str())
-                    || own.file == place.file && own.start.line == place.start.line
+        match (self.parsed.spans.first(), note.spans.first()) {
+            (Some(own), Some(span)) => {
+                !is_of_python(span.file.as_str())
+                    || own.file == span.file && own.start.line == span.start.line
             }
             _ => false,
         }
@@ -152,9 +152,9 @@ impl Block {
     /// The diagnostic, of which nothing more is read, and the lines behind it that turned out to be none
     /// of it.
     pub fn finish(self) -> (Diagnostic, Vec<MessageLine>)
-        ensures told { result.0 ≡ told_of self }
+        ensures parsed { result.0 ≡ parsed_of self }
         ensures behind { map blocks.bytes_of result.1.items ≡ blocks.lines_behind self }
     {
-        (self.told, self.more)
+        (self.parsed, self.more)
     }
 }

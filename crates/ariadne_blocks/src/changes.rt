@@ -1,7 +1,7 @@
 //! What is to be changed, by a row of a snippet or one for programs: helps of a block.
 
 ghost use Rattle.std.specs.Prelude.{◌≡◌, option_map, slice_get, string_bytes, true, None, IfOk, OnOk, Some};
-ghost use Rattle.ariadne_parse.specs.FixRows.{fix_row_told};
+ghost use Rattle.ariadne_parse.specs.FixRows.{fix_row_parsed};
 ghost use Rattle.ariadne_blocks.specs.Blocks as blocks;
 ghost use Rattle.ariadne_blocks.specs.Blocks.{view_of};
 ghost use Rattle.ariadne_blocks.specs.Files.{file_of};
@@ -10,7 +10,7 @@ ghost use Rattle.ariadne_blocks.specs.declared.block.Aside.TheVariants as aside;
 use crate::asides::go_on;
 use crate::block::{Aside, Block};
 use crate::file::QuotedFile;
-use crate::fix_rows::{ToldChange, column_of, fix_of, is_path_of, is_told, unescaped};
+use crate::fix_rows::{ParsedChange, column_of, fix_of, is_parsed, is_path_of, unescaped};
 use crate::fixes::{change_unit, fix_text, fix_words};
 use ariadne_parse::{FixRow, Unit, fix_row_of};
 use ariadne_snippets::Fix;
@@ -23,7 +23,7 @@ impl Block {
         alloc: Global,
         text: &'t str,
     ) -> Result<Option<FixRow<'t>>, AllocError>
-        ensures { IfOk result (λ row. option_map fix_row_told row
+        ensures { IfOk result (λ row. option_map fix_row_parsed row
             ≡ blocks.fix_row_of text.now (view_of self.now)) }
     {
         let Some(row) = fix_row_of(text) else {
@@ -40,7 +40,7 @@ impl Block {
     /// Takes in a row that tells programs what to change: as a help, and as a part of what is proposed.
     pub(crate) fn add_fix_row(&mut self, alloc: Global, row: &FixRow<'_>) -> Result<(), AllocError>
         ensures { OnOk result (view_of self.new
-            ≡ blocks.with_fix_row (fix_row_told row.now) (view_of self.old)) }
+            ≡ blocks.with_fix_row (fix_row_parsed row.now) (view_of self.old)) }
     {
         let text = unescaped(alloc, row.text)?;
         self.add_help_of_row(alloc, row, text.as_str())?;
@@ -55,10 +55,10 @@ impl Block {
         text: &str,
     ) -> Result<(), AllocError>
         ensures { OnOk result (view_of self.new
-            ≡ blocks.with_help_of_row (fix_row_told row.now) text.now (view_of self.old)) }
+            ≡ blocks.with_help_of_row (fix_row_parsed row.now) text.now (view_of self.old)) }
     {
         let fix = fix_of(row, text);
-        if is_told(self.changes.as_slice(), &fix) {
+        if is_parsed(self.changes.as_slice(), &fix) {
             return Ok(());
         }
         self.add_reason(alloc)?;
@@ -93,7 +93,7 @@ impl Block {
     }
 
     /// Has a help begin with what the note says of which the rows are, if they are of one.
-    #[tactic(auto, using(crate::proofs::Lists::place_mapped))]
+    #[tactic(auto, using(crate::proofs::Lists::span_mapped))]
     fn add_reason_of_note(&mut self, alloc: Global) -> Result<(), AllocError>
         ensures view { OnOk result (view_of self.new ≡ blocks.with_reason_of_note (view_of self.old)) }
         ensures rows { OnOk result (self.new.rows ≡ self.old.rows) }
@@ -101,9 +101,9 @@ impl Block {
         if self.rows.at == 0 {
             return Ok(());
         }
-        match self.told.places.get(self.rows.at) {
-            Some(place) => {
-                let why = place.text.clone()?;
+        match self.parsed.spans.get(self.rows.at) {
+            Some(span) => {
+                let why = span.text.clone()?;
                 self.add_why(alloc, why.as_str())
             }
             None => Ok(()),
@@ -151,16 +151,16 @@ impl Block {
     {
         let unit = self.unit_of_changes();
         let change = fix_text(alloc, file, unit, fix)?;
-        self.changes.push(ToldChange::of(fix))?;
+        self.changes.push(ParsedChange::of(fix))?;
         self.add_change(change)
     }
 
     /// What the columns of changes count.
     fn unit_of_changes(&self) -> Unit
-        ensures { result ≡ blocks.unit_of_changes (slice_get (view_of self.now).told.places 0) }
+        ensures { result ≡ blocks.unit_of_changes (slice_get (view_of self.now).parsed.spans 0) }
     {
-        match self.told.places.first() {
-            Some(place) => change_unit(place.unit),
+        match self.parsed.spans.first() {
+            Some(span) => change_unit(span.unit),
             None => Unit::Byte,
         }
     }
@@ -173,14 +173,14 @@ impl Block {
     {
         match self.aside {
             Aside::Note => {
-                self.told.helps.push(change)?;
+                self.parsed.helps.push(change)?;
                 Ok(())
             }
             Aside::Help => {
                 self.aside = Aside::Change;
-                go_on(&mut self.told.helps, ": ", change.as_str())
+                go_on(&mut self.parsed.helps, ": ", change.as_str())
             }
-            Aside::Change => go_on(&mut self.told.helps, ",\n", change.as_str()),
+            Aside::Change => go_on(&mut self.parsed.helps, ",\n", change.as_str()),
         }
     }
 }

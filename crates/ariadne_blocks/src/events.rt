@@ -10,7 +10,7 @@
 //!            |g.h:7:2:                     the file of the next rows, where it is another
 //!     <------+                             where that returns
 //!     |cc1:
-//!     | (6): ...to here                    an event that is at no place
+//!     | (6): ...to here                    an event that is at no span
 //! ```
 
 ghost use Rattle.std.specs.Prelude.{◌≡◌, option_map};
@@ -26,7 +26,7 @@ pub(crate) enum EventRow<'a> {
     Frame,
     /// The file of the next rows, `FILE:LINE:COLUMN:` behind a bar.
     File(&'a str),
-    /// An event that is at no place, `(6): ..` behind a bar.
+    /// An event that is at no span, `(6): ..` behind a bar.
     Telling(&'a str),
     /// A row of a snippet, which stands behind a bar.
     Quoting(&'a str),
@@ -35,7 +35,7 @@ pub(crate) enum EventRow<'a> {
 /// What a line is behind the head of events, if it is one of their rows.
 #[tactic(auto, unfolding(crate::specs::Events::event_in))]
 pub(crate) fn event_row(line: &str) -> Option<EventRow<'_>>
-    ensures { option_map events.event_told result ≡ events.event_in line.now }
+    ensures { option_map events.event_parsed result ≡ events.event_in line.now }
 {
     let text = line.trim_start();
     if is_events_head(line) || is_return(text) {
@@ -51,9 +51,9 @@ pub(crate) fn event_row(line: &str) -> Option<EventRow<'_>>
 
 /// What stands behind a bar, if it is more than blanks.
 fn row_behind_bar(row: &str) -> EventRow<'_>
-    ensures { events.event_told result ≡ events.event_of_row row.now }
+    ensures { events.event_parsed result ≡ events.event_of_row row.now }
 {
-    match (named_file(row), told_event(row)) {
+    match (named_file(row), parsed_event(row)) {
         (Some(file), _) => EventRow::File(file),
         (None, Some(event)) => EventRow::Telling(event),
         (None, None) => EventRow::Quoting(row),
@@ -67,9 +67,9 @@ fn is_of_program(row: &str) -> bool
     begins_with(row, "cc1") && closes_with(row, ":")
 }
 
-/// An event that a row tells of no place, `(6): ..` behind a blank.
-fn told_event(row: &str) -> Option<&str>
-    ensures { option_map (λ event. event.now) result ≡ events.told_in row.now }
+/// An event that a row tells of no span, `(6): ..` behind a blank.
+fn parsed_event(row: &str) -> Option<&str>
+    ensures { option_map (λ event. event.now) result ≡ events.parsed_in row.now }
 {
     let event = behind_blank(row)?;
     if is_numbered(event) {

@@ -34,7 +34,7 @@ impl<'a> QuotedFile<'a> {
         let column = at.offset.saturating_add(1);
         let line = at.line.saturating_sub(self.above);
         match self.columns.offset(Unit::Char, line, column) {
-            Some(offset) => self.columns.spot_at(self.unit(unit), offset).1,
+            Some(offset) => self.columns.location_at(self.unit(unit), offset).1,
             None => column,
         }
     }

@@ -3,7 +3,7 @@
 
 ghost use Rattle.std.specs.Prelude.{◌≡◌, ◌==◌, ◌++◌, ◌∷◌, ℕ, List, IfOk, option_map, string_bytes};
 ghost use Rattle.std.specs.List.{list_any};
-ghost use Rattle.ariadne_parse.specs.FixRows.{fix_row_told};
+ghost use Rattle.ariadne_parse.specs.FixRows.{fix_row_parsed};
 ghost use Rattle.ariadne_parse.specs.TextPieces.{in_front_of, in_front_of_text};
 ghost use Rattle.ariadne_parse.specs.Proposed.{edit_of};
 ghost use Rattle.ariadne_blocks.specs.FixChanges as rows;
@@ -16,19 +16,19 @@ use std::alloc::{AllocError, Global};
 
 /// A change that rows below a line have told: in which line it is, and whether that only removes something.
 #[derive(Clone, Copy, Debug)]
-pub(crate) struct ToldChange {
+pub(crate) struct ParsedChange {
     /// The line.
     pub(crate) line: usize,
     /// Whether something is removed.
     pub(crate) is_removal: bool,
 }
 
-impl ToldChange {
+impl ParsedChange {
     /// That of a fix.
-    pub(crate) fn of(fix: &Fix<'_>) -> ToldChange
-        ensures { result ≡ rows.told_change fix.now }
+    pub(crate) fn of(fix: &Fix<'_>) -> ParsedChange
+        ensures { result ≡ rows.parsed_change fix.now }
     {
-        ToldChange {
+        ParsedChange {
             line: fix.at.line,
             is_removal: is_removal(fix.kind),
         }
@@ -54,14 +54,14 @@ fn is_removal(kind: FixKind) -> bool
 
 /// Whether what a row says is told by one of these: below a line gcc and clang show all that they put there, but no
 /// text of several lines.
-pub(crate) fn is_told(changes: &[ToldChange], fix: &Fix<'_>) -> bool
-    ensures { result ≡ rows.is_told_in changes.now fix.now.at.line fix.now.kind fix.now.text.now }
+pub(crate) fn is_parsed(changes: &[ParsedChange], fix: &Fix<'_>) -> bool
+    ensures { result ≡ rows.is_parsed_in changes.now fix.now.at.line fix.now.kind fix.now.text.now }
 {
     !has_line_feed(fix.text) && has_like(changes, fix)
 }
 
 /// Whether one of these is in the line of a fix, and removes something where that does.
-fn has_like(changes: &[ToldChange], fix: &Fix<'_>) -> bool
+fn has_like(changes: &[ParsedChange], fix: &Fix<'_>) -> bool
     ensures { result ≡ list_any (rows.is_like fix.now.at.line fix.now.kind) changes.now }
 {
     changes.iter().any(|change| change.is_like(fix))
@@ -94,7 +94,7 @@ fn in_front<'t>(text: &'t str, end: &str) -> Option<&'t str>
 /// What a row says is to be changed, which has this text without escapes. Its column is the row's own.
 pub(crate) fn fix_of<'a>(row: &FixRow<'_>, text: &'a str) -> Fix<'a>
     ensures line { result.at.line ≡ row.now.start.line }
-    ensures kind { (result.kind, result.text.now) ≡ rows.kind_of (fix_row_told row.now) text.now }
+    ensures kind { (result.kind, result.text.now) ≡ rows.kind_of (fix_row_parsed row.now) text.now }
 {
     let (kind, text) = kind_of(row, text);
     let at = Point {
@@ -106,7 +106,7 @@ pub(crate) fn fix_of<'a>(row: &FixRow<'_>, text: &'a str) -> Fix<'a>
 
 /// The change that a row tells, which has this text without escapes.
 pub(crate) fn change_of(alloc: Global, row: &FixRow<'_>, text: &str) -> Result<Change, AllocError>
-    ensures { IfOk result (λ change. edit_of change ≡ edit_with (fix_row_told row.now) text.now) }
+    ensures { IfOk result (λ change. edit_of change ≡ edit_with (fix_row_parsed row.now) text.now) }
 {
     Ok(Change {
         start: row.start,
@@ -117,7 +117,7 @@ pub(crate) fn change_of(alloc: Global, row: &FixRow<'_>, text: &str) -> Result<C
 
 /// What kind of fix a row is, and its text: a line where it ends one, and takes the place of nothing at its start.
 fn kind_of<'a>(row: &FixRow<'_>, text: &'a str) -> (FixKind, &'a str)
-    ensures { (result.0, result.1.now) ≡ rows.kind_of (fix_row_told row.now) text.now }
+    ensures { (result.0, result.1.now) ≡ rows.kind_of (fix_row_parsed row.now) text.now }
 {
     if text.is_empty() {
         return (FixKind::Remove, text);
@@ -137,14 +137,14 @@ fn in_front_of_feed(text: &str) -> Option<&str>
 
 /// Whether a row takes the place of nothing, at the start of its line.
 fn is_at_line(row: &FixRow<'_>) -> bool
-    ensures { result ≡ rows.is_at_line (fix_row_told row.now) }
+    ensures { result ≡ rows.is_at_line (fix_row_parsed row.now) }
 {
     row.start == row.end && matches!(row.start.column, Some(1))
 }
 
 /// The column of a row, from 1, in bytes.
 pub(crate) fn column_of(row: &FixRow<'_>) -> usize
-    ensures { result ≡ rows.column_of (fix_row_told row.now) }
+    ensures { result ≡ rows.column_of (fix_row_parsed row.now) }
 {
     row.start.column.unwrap_or(1)
 }

@@ -11,12 +11,12 @@ ghost use Rattle.std.specs.Prelude.{◌≡◌, ◌==◌, option_map};
 ghost use Rattle.std.specs.List.{list_any, prefix_len};
 ghost use Rattle.std.specs.Option.{option_copied};
 ghost use Rattle.ariadne_parse.specs.TextPieces.{split_once};
-ghost use Rattle.ariadne_parse.specs.Places.{seen};
+ghost use Rattle.ariadne_parse.specs.Spans.{seen};
 ghost use Rattle.ariadne_blocks.specs.GoingOn as going;
 
 use crate::events::{begins_with, behind_blank, closes_with};
 use crate::message::{had_no_room, is_of_python, width_of};
-use ariadne_parse::Place;
+use ariadne_parse::Span;
 
 /// How a message may go on in the next line.
 #[derive(Clone, Copy, Debug)]
@@ -30,13 +30,13 @@ pub(crate) enum GoesOn {
 }
 
 impl GoesOn {
-    /// How the message of a head about this place may go on.
-    pub(crate) fn behind(head: &str, place: Option<&Place>) -> GoesOn
-        ensures { result ≡ going.behind_head head.now (option_map seen (option_copied place.entry)) }
+    /// How the message of a head about this span may go on.
+    pub(crate) fn behind(head: &str, span: Option<&Span>) -> GoesOn
+        ensures { result ≡ going.behind_head head.now (option_map seen (option_copied span.entry)) }
     {
-        match place {
-            Some(place) if is_of_python(place.file.as_str()) => GoesOn::Cut(width_of(head)),
-            Some(place) if is_of_rust(place.file.as_str()) => behind_kind(head),
+        match span {
+            Some(span) if is_of_python(span.file.as_str()) => GoesOn::Cut(width_of(head)),
+            Some(span) if is_of_rust(span.file.as_str()) => behind_kind(head),
             _ => GoesOn::Nowhere,
         }
     }
@@ -85,8 +85,8 @@ fn behind_kind(head: &str) -> GoesOn
 fn kind_in(head: &str) -> Option<&str>
     ensures { option_map (λ kind. kind.now) result ≡ going.kind_in head.now }
 {
-    let (_, place) = at_colon(head)?;
-    let (_, column) = at_colon(place)?;
+    let (_, span) = at_colon(head)?;
+    let (_, column) = at_colon(span)?;
     let (_, said) = at_colon(column)?;
     let (kind, _) = at_colon(said)?;
     if has_blank(behind_blank(kind)?) {

@@ -15,10 +15,10 @@ mod goes_on;
 pub mod line;
 pub mod message;
 mod message_lines;
-mod places;
 mod proposing;
 pub mod repeats;
 mod rows;
+mod spans;
 mod taking;
 
 pub use block::Block;

@@ -80,19 +80,19 @@ fn has_long_word(text: &str, least: usize) -> bool
 /// Adds lines to the message of a diagnostic, if there are some, and parts the code at its end from it.
 pub(crate) fn settle_message(
     alloc: Global,
-    told: &mut Diagnostic,
+    parsed: &mut Diagnostic,
     lines: &mut Vec<MessageLine>,
 ) -> Result<(), AllocError>
-    ensures told { OnOk result (telling told.new
-        ≡ messages.with_lines (map text_of (map held_of lines.old.items)) (telling told.old)) }
+    ensures parsed { OnOk result (telling parsed.new
+        ≡ messages.with_lines (map text_of (map held_of lines.old.items)) (telling parsed.old)) }
     ensures none { OnOk result (lines.new.items ≡ []) }
 {
     if lines.is_empty() {
         return Ok(());
     }
-    push_lines(&mut told.message, lines.as_slice())?;
+    push_lines(&mut parsed.message, lines.as_slice())?;
     lines.clear();
-    settle_code(alloc, told)
+    settle_code(alloc, parsed)
 }
 
 /// Adds lines to a message.
@@ -119,17 +119,17 @@ fn push_line(message: &mut String, line: &str) -> Result<(), AllocError>
 }
 
 /// Parts the code in brackets at the end of a message from it, if one stands there and none is known.
-fn settle_code(alloc: Global, told: &mut Diagnostic) -> Result<(), AllocError>
-    ensures { OnOk result (telling told.new ≡ messages.parted (telling told.old)) }
+fn settle_code(alloc: Global, parsed: &mut Diagnostic) -> Result<(), AllocError>
+    ensures { OnOk result (telling parsed.new ≡ messages.parted (telling parsed.old)) }
 {
-    if told.code.is_some() {
+    if parsed.code.is_some() {
         return Ok(());
     }
-    let Some((message, code)) = code_in(told.message.as_str()) else {
+    let Some((message, code)) = code_in(parsed.message.as_str()) else {
         return Ok(());
     };
     let message = String::from_str(alloc, message)?;
-    told.code = Some(String::from_str(alloc, code)?);
-    told.message = message;
+    parsed.code = Some(String::from_str(alloc, code)?);
+    parsed.message = message;
     Ok(())
 }

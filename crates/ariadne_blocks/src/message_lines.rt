@@ -32,12 +32,12 @@ impl Block {
         Ok(true)
     }
 
-    /// The line of its first place.
+    /// The line of its first span.
     fn first_line(&self) -> usize
-        ensures { result ≡ blocks.first_line (view_of self.now).told.places }
+        ensures { result ≡ blocks.first_line (view_of self.now).parsed.spans }
     {
-        match self.told.places.first() {
-            Some(place) => place.start.line,
+        match self.parsed.spans.first() {
+            Some(span) => span.start.line,
             None => 0,
         }
     }
@@ -53,8 +53,8 @@ impl Block {
     pub(crate) fn add_message_row(&mut self, row: &str) -> Result<(), AllocError>
         ensures { OnOk result (view_of self.new ≡ blocks.with_message_row row.now (view_of self.old)) }
     {
-        self.told.message.push('\n')?;
-        self.told.message.push_str(row)?;
+        self.parsed.message.push('\n')?;
+        self.parsed.message.push_str(row)?;
         Ok(())
     }
 
@@ -64,6 +64,6 @@ impl Block {
         ensures rows { OnOk result (self.new.rows ≡ self.old.rows) }
     {
         self.goes_on = GoesOn::Nowhere;
-        settle_message(alloc, &mut self.told, &mut self.more)
+        settle_message(alloc, &mut self.parsed, &mut self.more)
     }
 }

@@ -3,8 +3,8 @@
 
 ghost use Rattle.std.specs.Prelude.{◌≡◌, ◌==◌, ◌++◌, ◌∷◌, [], map, IfOk, OnOk};
 ghost use Rattle.std.specs.List.{list_all, list_any};
-ghost use Rattle.ariadne_parse.specs.FixRows.{fix_row_told};
-ghost use Rattle.ariadne_parse.specs.Proposed as told;
+ghost use Rattle.ariadne_parse.specs.FixRows.{fix_row_parsed};
+ghost use Rattle.ariadne_parse.specs.Proposed as parsed;
 ghost use Rattle.ariadne_parse.specs.Proposed.{edit_of, proposed};
 ghost use Rattle.ariadne_blocks.specs.Blocks as blocks;
 ghost use Rattle.ariadne_blocks.specs.Blocks.{view_of};
@@ -12,7 +12,7 @@ ghost use Rattle.ariadne_blocks.specs.ProposedByRows as proposing;
 ghost use Rattle.ariadne_blocks.specs.ProposedByRows.{any_in_line, edit_with, way_of};
 
 use crate::block::Block;
-use crate::fix_rows::{ToldChange, change_of};
+use crate::fix_rows::{ParsedChange, change_of};
 use ariadne_parse::{Change, FixRow, Proposal, Unit};
 use std::alloc::{AllocError, Global};
 use std::ops::Range;
@@ -27,7 +27,7 @@ pub(crate) struct Proposing<'a> {
     /// The file.
     pub(crate) file: String,
     /// What rows of the snippet told of them.
-    pub(crate) drawn: &'a [ToldChange],
+    pub(crate) drawn: &'a [ParsedChange],
 }
 
 impl Proposing<'_> {
@@ -41,7 +41,7 @@ impl Proposing<'_> {
     /// The helps that say the same as these ways: none, unless they change something in each line that rows of the
     /// snippet change.
     fn helps_saying(&self, ways: &[Vec<Change>]) -> Range<usize>
-        ensures { (result.start, result.end) ≡ proposing.helps_saying (way_of self.now) (map told.way_of ways.now) }
+        ensures { (result.start, result.end) ≡ proposing.helps_saying (way_of self.now) (map parsed.way_of ways.now) }
     {
         if change_all(ways, self.drawn) {
             self.helps.start..self.helps.end
@@ -80,21 +80,21 @@ impl Block {
         text: &str,
     ) -> Result<(), AllocError>
         ensures { OnOk result (view_of self.new
-            ≡ blocks.with_proposed (edit_with (fix_row_told row.now) text.now) (view_of self.old)) }
+            ≡ blocks.with_proposed (edit_with (fix_row_parsed row.now) text.now) (view_of self.old)) }
     {
         let by = Proposing {
-            helps: self.since..self.told.helps.len(),
+            helps: self.since..self.parsed.helps.len(),
             why: self.why.clone()?,
             file: self.rows.path.clone()?,
             drawn: self.changes.as_slice(),
         };
         let change = change_of(alloc, row, text)?;
-        push_change(alloc, &mut self.told.proposals, by, change)
+        push_change(alloc, &mut self.parsed.proposals, by, change)
     }
 }
 
 /// Whether ways change something in each line in which rows of the snippet told a change.
-fn change_all(ways: &[Vec<Change>], drawn: &[ToldChange]) -> bool
+fn change_all(ways: &[Vec<Change>], drawn: &[ParsedChange]) -> bool
     ensures { result ≡ list_all (λ change. any_in_line change.line ways.now) drawn.now }
 {
     drawn.iter().all(|change| are_in_line(ways, change.line))

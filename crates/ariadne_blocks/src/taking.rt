@@ -3,7 +3,7 @@
 ghost use Rattle.std.specs.Prelude.{◌≡◌, option_map, false, true, None, IfOk, IfSome, OnOk, Some};
 ghost use Rattle.ariadne_blocks.specs.Blocks as blocks;
 ghost use Rattle.ariadne_blocks.specs.Blocks.{view_of, HasNoMoreRows, IsRow, IsRowOf, IsSameBlock};
-ghost use Rattle.ariadne_blocks.specs.Events.{event_in, event_told};
+ghost use Rattle.ariadne_blocks.specs.Events.{event_in, event_parsed};
 ghost use Rattle.ariadne_blocks.specs.Files.{file_of};
 ghost use Rattle.ariadne_blocks.specs.declared.block.Aside.TheVariants as aside;
 
@@ -12,12 +12,12 @@ use crate::colors::without_gcc_colors;
 use crate::events::{EventRow, event_row, is_events_head};
 use crate::file::QuotedFile;
 use crate::line::Line;
-use ariadne_parse::{Arrow, Spot};
+use ariadne_parse::{Arrow, Location};
 use ariadne_snippets::Taken;
 use std::alloc::{AllocError, Global};
 
 /// The line that stands for a file as a whole.
-const FIRST_LINE: Spot = Spot {
+const FIRST_LINE: Location = Location {
     line: 1,
     column: None,
 };
@@ -78,7 +78,7 @@ impl Block {
 
     /// What a line is of the events whose head it is, or whose head was read.
     fn event_row<'a>(&self, text: &'a str) -> Option<EventRow<'a>>
-        ensures { IfSome result (λ row. event_in text.now ≡ Some (event_told row)) }
+        ensures { IfSome result (λ row. event_in text.now ≡ Some (event_parsed row)) }
     {
         if self.has_events || is_events_head(text) {
             event_row(text)
@@ -114,7 +114,7 @@ impl Block {
     /// haven't.
     fn take_file(&mut self, alloc: Global, path: &str) -> Result<bool, AllocError>
         ensures file { IfOk result (λ is_row. is_row ≡ true → view_of self.new
-            ≡ record (view_of self.old) { named = Some (blocks.file_place path.now) }) }
+            ≡ record (view_of self.old) { named = Some (blocks.file_span path.now) }) }
         ensures none { IfOk result (λ is_row. is_row ≡ false → self.new ≡ self.old) }
         ensures ends { IfOk result (λ is_row. is_row ≡ false → HasNoMoreRows self.new) }
         ensures over { HasNoMoreRows self.old → IfOk result (λ is_row. is_row ≡ false) }
@@ -127,13 +127,13 @@ impl Block {
             start: FIRST_LINE,
             is_further: true,
         };
-        self.named = Some(arrow.place(alloc)?);
+        self.named = Some(arrow.span(alloc)?);
         Ok(true)
     }
 
-    /// Takes in an event that is at no place as a note, unless the rows have ended, and returns whether they haven't.
+    /// Takes in an event that is at no span as a note, unless the rows have ended, and returns whether they haven't.
     fn take_event(&mut self, alloc: Global, event: &str) -> Result<bool, AllocError>
-        ensures told { IfOk result (λ is_row. is_row ≡ true → view_of self.new
+        ensures parsed { IfOk result (λ is_row. is_row ≡ true → view_of self.new
             ≡ blocks.with_text aside.Note event.now (view_of self.old)) }
         ensures none { IfOk result (λ is_row. is_row ≡ false → self.new ≡ self.old) }
         ensures ends { IfOk result (λ is_row. is_row ≡ false → HasNoMoreRows self.new) }
@@ -229,14 +229,14 @@ impl Block {
             text.now is_quote taken.entry (view_of self.old)) }
         ensures snippet { OnOk result (self.new.rows.snippet ≡ self.old.rows.snippet) }
     {
-        let places = &mut self.told.places;
+        let spans = &mut self.parsed.spans;
         match taken {
             Taken::Nothing if is_quote => self.settle(alloc),
             Taken::Nothing | Taken::NotOfSnippet => Ok(()),
-            Taken::Ranges(marks) => self.rows.add_marks(alloc, file, places, marks.as_slice()),
-            Taken::Labels(labels) => self.rows.add_labels(alloc, places, labels.as_slice()),
+            Taken::Ranges(marks) => self.rows.add_marks(alloc, file, spans, marks.as_slice()),
+            Taken::Labels(labels) => self.rows.add_labels(alloc, spans, labels.as_slice()),
             Taken::Begun(mark, start) => {
-                self.rows.begin_mark(places.as_mut_slice(), mark, start);
+                self.rows.begin_mark(spans.as_mut_slice(), mark, start);
                 Ok(())
             }
             Taken::Fixes(fixes) => self.add_fixes(alloc, file, fixes.as_slice()),

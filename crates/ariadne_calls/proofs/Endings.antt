@@ -5,8 +5,8 @@ use Rattle.std.proofs.lemmas.Bool.{ne_eqb}
 use Rattle.ariadne_calls.specs.declared.given.GivenReport.{GivenReport}
 use Rattle.ariadne_calls.specs.declared.given.GivenSource.{GivenSource}
 use Rattle.ariadne_calls.specs.declared.given.ToldLeftOut.{ToldLeftOut}
-use Rattle.ariadne_calls.specs.declared.ending.Ending.{Ending}
-use Rattle.ariadne_calls.specs.declared.ending.Ending.TheVariants.{Drawn, TooShort, Refused}
+use Rattle.ariadne_calls.specs.declared.ending.CallOutcome.{CallOutcome}
+use Rattle.ariadne_calls.specs.declared.ending.CallOutcome.TheVariants.{Drawn, TooShort, Refused}
 use Rattle.ariadne_calls.specs.declared.ending.Fault.{Fault}
 use Rattle.ariadne_calls.specs.declared.ending.Fault.TheVariants as fault
 use Rattle.ariadne_calls.specs.declared.ending.Refusal.TheVariants.{NoMemory, Faulty}
@@ -32,7 +32,7 @@ in_reach (fault.SourceText k) = (omega arith, omega arith)
 in_reach (fault.SourceLines k) = (omega arith, omega arith)
 
 pub numbered : (report : GivenReport) (sources : List GivenSource) (old new : List ℕ)
-    (old_left new_left : List ToldLeftOut) (e : Ending) → Gives report sources old new old_left new_left e
+    (old_left new_left : List ToldLeftOut) (e : CallOutcome) → Gives report sources old new old_left new_left e
     → GivesNumber report sources old new (len_of e) old_left new_left (count_of e) (status_of e)
 numbered report sources old new old_left new_left (Drawn len zero) h = record {
   drawn = λ _. h.1;

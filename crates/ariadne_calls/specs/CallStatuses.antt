@@ -4,8 +4,8 @@ use Rattle.std.specs.Prelude.{IsSomeAnd, slice_get}
 use Rattle.ariadne_calls.specs.declared.given.GivenReport.{GivenReport}
 use Rattle.ariadne_calls.specs.declared.given.GivenSource.{GivenSource}
 use Rattle.ariadne_calls.specs.declared.given.ToldLeftOut.{ToldLeftOut}
-use Rattle.ariadne_calls.specs.declared.ending.Ending.{Ending}
-use Rattle.ariadne_calls.specs.declared.ending.Ending.TheVariants.{Drawn, TooShort, Refused}
+use Rattle.ariadne_calls.specs.declared.ending.CallOutcome.{CallOutcome}
+use Rattle.ariadne_calls.specs.declared.ending.CallOutcome.TheVariants.{Drawn, TooShort, Refused}
 use Rattle.ariadne_calls.specs.declared.ending.Fault.{Fault}
 use Rattle.ariadne_calls.specs.declared.ending.Fault.TheVariants as fault
 use Rattle.ariadne_calls.specs.declared.ending.Refusal.TheVariants.{NoMemory, Faulty}
@@ -51,20 +51,20 @@ place_of (fault.SourceText k) = k
 place_of (fault.SourceLines k) = k
 
 -- the status that tells an ending
-abbrev pub status_of : Ending → ℕ
+abbrev pub status_of : CallOutcome → ℕ
 status_of (Drawn len left_out) = if left_out == 0 then 0 else 1
 status_of (TooShort len) = 2
 status_of (Refused NoMemory) = 3
 status_of (Refused (Faulty f)) = number_of f
 
 -- the bytes of the picture, where there is one
-abbrev pub len_of : Ending → ℕ
+abbrev pub len_of : CallOutcome → ℕ
 len_of (Drawn len left_out) = len
 len_of (TooShort len) = len
 len_of (Refused refusal) = 0
 
 -- the labels that are left out, or the number of what is at fault
-abbrev pub count_of : Ending → ℕ
+abbrev pub count_of : CallOutcome → ℕ
 count_of (Drawn len left_out) = left_out
 count_of (TooShort len) = 0
 count_of (Refused NoMemory) = 0
@@ -78,7 +78,7 @@ module _ (report : GivenReport) (sources : List GivenSource) where
       (λ f. (number ≡ number_of f) × (place ≡ place_of f))
 
   -- what the buffers hold, by the ending
-  abbrev pub Gives : List ℕ → List ℕ → List ToldLeftOut → List ToldLeftOut → Ending → Type 0
+  abbrev pub Gives : List ℕ → List ℕ → List ToldLeftOut → List ToldLeftOut → CallOutcome → Type 0
   Gives old new old_left new_left (Drawn len left_out) =
       (faults report sources ≡ []) × Holds report sources old new len old_left new_left left_out
   Gives old new old_left new_left (TooShort len) =

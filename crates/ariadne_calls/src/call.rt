@@ -6,7 +6,7 @@ ghost use Rattle.ariadne_calls.specs.CallStatuses.{Gives};
 ghost use Rattle.ariadne_calls.specs.Faults.{IsFirst, faults};
 ghost use Rattle.ariadne_calls.specs.CallBuffers.{IsDrawn};
 
-use crate::ending::{Ending, Refusal};
+use crate::ending::{CallOutcome, Refusal};
 use crate::flag;
 use crate::given::{GivenReport, GivenSource, ToldLeftOut};
 use crate::pictures::{Picture, picture_as_it_is};
@@ -20,20 +20,20 @@ pub fn draw(
     sources: &[GivenSource<'_>],
     out: &mut [u8],
     left: &mut [ToldLeftOut],
-) -> Ending
+) -> CallOutcome
     ensures { Gives report.now sources.now out.old out.new left.old left.new result }
 {
     let picture = match picture_of(alloc, report, sources) {
         Ok(picture) => picture,
-        Err(refusal) => return Ending::Refused(refusal),
+        Err(refusal) => return CallOutcome::Refused(refusal),
     };
     let len = picture.bytes.len();
     if out.len() < len {
-        return Ending::TooShort { len };
+        return CallOutcome::TooShort { len };
     }
     out[..len].copy_from_slice(picture.bytes.as_slice());
     tell(picture.left_out.as_slice(), left);
-    Ending::Drawn {
+    CallOutcome::Drawn {
         len,
         left_out: picture.left_out.len(),
     }

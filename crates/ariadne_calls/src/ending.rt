@@ -124,7 +124,7 @@ impl<T: Drop> From<AllocFailed<T>> for Refusal {
 
 /// How a call ends.
 #[derive(Clone, Copy, Debug, PartialEq, Eq)]
-pub enum Ending {
+pub enum CallOutcome {
     /// The picture has so many bytes, and so many labels are left out of it.
     Drawn { len: usize, left_out: usize },
     /// The picture has so many bytes, and the buffer has fewer.
@@ -133,17 +133,17 @@ pub enum Ending {
     Refused(Refusal),
 }
 
-impl Ending {
+impl CallOutcome {
     /// The status that tells it.
     pub fn status(self) -> u32
         ensures { result ≡ status_of self }
     {
         match self {
-            Ending::Drawn { left_out: 0, .. } => 0,
-            Ending::Drawn { .. } => 1,
-            Ending::TooShort { .. } => 2,
-            Ending::Refused(Refusal::NoMemory) => 3,
-            Ending::Refused(Refusal::Faulty(fault)) => fault.number(),
+            CallOutcome::Drawn { left_out: 0, .. } => 0,
+            CallOutcome::Drawn { .. } => 1,
+            CallOutcome::TooShort { .. } => 2,
+            CallOutcome::Refused(Refusal::NoMemory) => 3,
+            CallOutcome::Refused(Refusal::Faulty(fault)) => fault.number(),
         }
     }
 
@@ -152,8 +152,8 @@ impl Ending {
         ensures { result ≡ len_of self }
     {
         match self {
-            Ending::Drawn { len, .. } | Ending::TooShort { len } => len,
-            Ending::Refused(_) => 0,
+            CallOutcome::Drawn { len, .. } | CallOutcome::TooShort { len } => len,
+            CallOutcome::Refused(_) => 0,
         }
     }
 
@@ -162,9 +162,9 @@ impl Ending {
         ensures { result ≡ count_of self }
     {
         match self {
-            Ending::Drawn { left_out, .. } => left_out,
-            Ending::Refused(Refusal::Faulty(fault)) => fault.place(),
-            Ending::TooShort { .. } | Ending::Refused(Refusal::NoMemory) => 0,
+            CallOutcome::Drawn { left_out, .. } => left_out,
+            CallOutcome::Refused(Refusal::Faulty(fault)) => fault.place(),
+            CallOutcome::TooShort { .. } | CallOutcome::Refused(Refusal::NoMemory) => 0,
         }
     }
 }

@@ -21,7 +21,7 @@ pub mod suggestion;
 mod texts;
 
 pub use call::draw;
-pub use ending::{Ending, Fault, Refusal};
+pub use ending::{CallOutcome, Fault, Refusal};
 pub use given::{
     GivenEdit, GivenLabel, GivenReport, GivenSource, GivenSuggestion, OptionalText, Text,
     ToldLeftOut,

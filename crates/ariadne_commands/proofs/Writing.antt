@@ -15,7 +15,7 @@ use Rattle.ariadne.specs.LeftOut.{LeftOut}
 use Rattle.ariadne.specs.declared.write_error.WriteError.{WriteError}
 use Rattle.ariadne.specs.declared.write_error.WriteError.TheVariants as write
 use Rattle.ariadne_commands.specs.ReadWords.{label_asking}
-use Rattle.ariadne_commands.specs.declared.asked.AskedLabel.{AskedLabel}
+use Rattle.ariadne_commands.specs.declared.asked.RequestedLabel.{RequestedLabel}
 use Rattle.ariadne_commands.specs.Drawn.{Leaves, colored, labels_from}
 use Rattle.ariadne_commands.specs.Faults.{status_of_written, status_without}
 use Rattle.ariadne_commands.specs.Words.{AskingLabel}
@@ -39,7 +39,7 @@ pub report_next : {S : Type 0} (report before after : ReportFields S) (labels : 
 report_next report before after labels next so_far = rw (next, so_far) refl
 
 -- the labels so far and those that come, and the next one of these taken
-pub label_next : {Id : Type 0} (id : Id) (s : GeneratorState) (so_far all : List (LabelFields (Id × Range ℕ))) (items : List AskedLabel) (i : ℕ) (label : AskedLabel)
+pub label_next : {Id : Type 0} (id : Id) (s : GeneratorState) (so_far all : List (LabelFields (Id × Range ℕ))) (items : List RequestedLabel) (i : ℕ) (label : RequestedLabel)
     → i < length items → label ≡ get_or items i label
     → so_far ++ labels_from id s (map label_asking (drop i items)) ≡ all
     → (so_far ++ colored id (color_of (stepped s)) (label_asking label) ∷ []) ++ labels_from id (stepped s) (map label_asking (drop (i + 1) items)) ≡ all

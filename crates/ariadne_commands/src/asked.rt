@@ -4,7 +4,7 @@ use ariadne::Place;
 
 /// What the options ask for.
 #[derive(Clone, Copy, Drop)]
-pub struct AskedOptions<'a> {
+pub struct RequestedOptions<'a> {
     /// `--ascii`: the strokes are ASCII, and not box drawing characters.
     pub is_ascii: bool,
     /// `--plain`: there are no colours.
@@ -19,7 +19,7 @@ pub struct AskedOptions<'a> {
 
 /// A label that the words ask for.
 #[derive(Drop)]
-pub struct AskedLabel<'a> {
+pub struct RequestedLabel<'a> {
     /// Where it stands in the source, whose offsets count from 0; its end is exclusive.
     pub place: Place,
     /// Its message.
@@ -28,11 +28,11 @@ pub struct AskedLabel<'a> {
 
 /// What the words ask for.
 #[derive(Drop)]
-pub struct Asked<'a> {
+pub struct Request<'a> {
     /// What the options ask for.
-    pub options: AskedOptions<'a>,
+    pub options: RequestedOptions<'a>,
     /// The report's message.
     pub message: &'a str,
     /// The report's labels, in the order of the words.
-    pub labels: Vec<AskedLabel<'a>>,
+    pub labels: Vec<RequestedLabel<'a>>,
 }

@@ -14,7 +14,7 @@ ghost use Rattle.ariadne_commands.specs.Watching.{has_failed, reader_of};
 ghost use Rattle.ariadne_commands.specs.Words.{asking_of};
 ghost use Rattle.ariadne_commands.specs.declared.fault.Fault.TheVariants.{Memory, Unread};
 
-use super::asked::{Asked, AskedLabel, AskedOptions};
+use super::asked::{Request, RequestedLabel, RequestedOptions};
 use super::fault::{Fault, Status, tell_fault};
 use super::pages::{asked_page, show};
 use super::watched::Watched;
@@ -89,7 +89,7 @@ fn draw_report<R: Files, I: Read, W: Write, F: Write>(
 fn draw_file<R: Files, W: Write, F: Write>(
     files: &R,
     alloc: Global,
-    asked: &Asked<'_>,
+    asked: &Request<'_>,
     path: &str,
     out: &mut W,
     faults: &mut F,
@@ -104,7 +104,7 @@ fn draw_file<R: Files, W: Write, F: Write>(
 /// Draws the report that is asked for over the text of `input`.
 fn draw_input<I: Read, W: Write, F: Write>(
     alloc: Global,
-    asked: &Asked<'_>,
+    asked: &Request<'_>,
     input: &mut Watched<I>,
     out: &mut W,
     faults: &mut F,
@@ -155,7 +155,7 @@ fn reading_fault(error: &io::Error, has_failed: bool) -> Fault
 /// be drawn, and returns how the program ends.
 fn draw_over<Id: Eq + Copy, C: Cache<Id>, W: Write, F: Write>(
     alloc: Global,
-    asked: &Asked<'_>,
+    asked: &Request<'_>,
     id: Id,
     cache: &mut C,
     out: &mut W,
@@ -194,7 +194,7 @@ fn tell_written<E: Drop, F: Write>(
 /// The report that is asked for, over the source with this id.
 fn asked_report<Id: Eq + Copy>(
     alloc: Global,
-    asked: &Asked<'_>,
+    asked: &Request<'_>,
     id: Id,
 ) -> Result<Report<'static, (Id, Range<usize>)>, AllocError>
     ensures { IfOk result (λ report. report ≡ report_of id (asking asked.now)) }
@@ -210,7 +210,7 @@ fn asked_report<Id: Eq + Copy>(
 /// The report that is asked for, before it gets its labels.
 fn report_without_labels<Id: Eq + Copy>(
     alloc: Global,
-    asked: &Asked<'_>,
+    asked: &Request<'_>,
     id: Id,
 ) -> Result<ReportBuilder<'static, (Id, Range<usize>)>, AllocError>
     ensures { IfOk result (λ report. report ≡ record (report_of id (asking asked.now))
@@ -225,7 +225,7 @@ fn report_without_labels<Id: Eq + Copy>(
 fn with_asked_label<Id: Eq + Copy>(
     alloc: Global,
     builder: ReportBuilder<'static, (Id, Range<usize>)>,
-    label: &AskedLabel<'_>,
+    label: &RequestedLabel<'_>,
     id: Id,
     color: Color,
 ) -> Result<ReportBuilder<'static, (Id, Range<usize>)>, AllocError>
@@ -240,7 +240,7 @@ fn with_asked_label<Id: Eq + Copy>(
 }
 
 /// What the report that is asked for points at, in the source with this id.
-fn asked_span<Id: Copy>(asked: &Asked<'_>, id: Id) -> (Id, Range<usize>)
+fn asked_span<Id: Copy>(asked: &Request<'_>, id: Id) -> (Id, Range<usize>)
     ensures { result ≡ own_span id (asking asked.now).labels }
 {
     match asked.labels.first() {
@@ -250,7 +250,7 @@ fn asked_span<Id: Copy>(asked: &Asked<'_>, id: Id) -> (Id, Range<usize>)
 }
 
 /// The configuration that the options ask for.
-fn asked_config(options: &AskedOptions<'_>) -> Config
+fn asked_config(options: &RequestedOptions<'_>) -> Config
     ensures { result ≡ config_of (options_asking options.now) }
 {
     Config::new()
@@ -261,7 +261,7 @@ fn asked_config(options: &AskedOptions<'_>) -> Config
 }
 
 /// The characters that the options ask for.
-fn asked_char_set(options: &AskedOptions<'_>) -> CharSet
+fn asked_char_set(options: &RequestedOptions<'_>) -> CharSet
     ensures { result ≡ (config_of (options_asking options.now)).char_set }
 {
     if options.is_ascii {
@@ -272,7 +272,7 @@ fn asked_char_set(options: &AskedOptions<'_>) -> CharSet
 }
 
 /// What the options ask offsets to count.
-fn asked_index_type(options: &AskedOptions<'_>) -> IndexType
+fn asked_index_type(options: &RequestedOptions<'_>) -> IndexType
     ensures { result ≡ (config_of (options_asking options.now)).index_type }
 {
     if options.is_bytes {

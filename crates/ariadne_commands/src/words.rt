@@ -9,7 +9,7 @@ ghost use Rattle.ariadne_commands.specs.Words.{label_of, labels_of, number_of};
 ghost use Rattle.ariadne_commands.specs.ReadWords.{label_asking, options_asking, ReadsLabels};
 ghost use Rattle.ariadne_commands.specs.ReadWords.{ReadsWords};
 
-use super::asked::{Asked, AskedLabel, AskedOptions};
+use super::asked::{Request, RequestedLabel, RequestedOptions};
 use super::fault::{DRAW_USAGE, Fault};
 use super::pages::asked_page;
 use ariadne::Place;
@@ -41,7 +41,7 @@ pub enum Front {
 /// word that doesn't begin with `--` is the message. Where a word `--` stands before it, the
 /// message is the word behind that, whatever it begins with. Three words for each label follow.
 /// Words of any other form are `Fault::Usage`.
-pub fn read_words<'a>(alloc: Global, words: &'a [String]) -> Result<Asked<'a>, Fault>
+pub fn read_words<'a>(alloc: Global, words: &'a [String]) -> Result<Request<'a>, Fault>
     ensures { ReadsWords (asking_of (map string_bytes words.now)) result }
 {
     match read_options(words) {
@@ -53,9 +53,9 @@ pub fn read_words<'a>(alloc: Global, words: &'a [String]) -> Result<Asked<'a>, F
 /// Reads the message and the labels that stand behind these options.
 fn read_behind<'a>(
     alloc: Global,
-    options: AskedOptions<'a>,
+    options: RequestedOptions<'a>,
     words: &'a [String],
-) -> Result<Asked<'a>, Fault>
+) -> Result<Request<'a>, Fault>
     ensures { ReadsWords (asking_behind (options_asking options.entry) (map string_bytes words.now))
         result }
 {
@@ -63,7 +63,7 @@ fn read_behind<'a>(
         return Err(Fault::Usage(DRAW_USAGE));
     };
     let labels = read_labels(alloc, rest)?;
-    Ok(Asked {
+    Ok(Request {
         options,
         message: message.as_str(),
         labels,
@@ -89,12 +89,12 @@ pub fn without_colors(alloc: Global, words: Vec<String>) -> Result<Vec<String>, 
 }
 
 /// What the options ask for, and the words from the message on.
-fn read_options<'a>(words: &'a [String]) -> Option<(AskedOptions<'a>, &'a [String])>
+fn read_options<'a>(words: &'a [String]) -> Option<(RequestedOptions<'a>, &'a [String])>
     ensures { MatchOption result (asking_of (map string_bytes words.now) ≡ None)
         (λ found. asking_of (map string_bytes words.now)
         ≡ asking_behind (options_asking found.0) (map string_bytes found.1.now)) }
 {
-    let mut options = AskedOptions {
+    let mut options = RequestedOptions {
         is_ascii: false,
         is_plain: false,
         is_compact: false,
@@ -140,7 +140,7 @@ fn front_of(word: &str) -> Front
 }
 
 /// The labels that words name in threes.
-fn read_labels<'a>(alloc: Global, words: &'a [String]) -> Result<Vec<AskedLabel<'a>>, Fault>
+fn read_labels<'a>(alloc: Global, words: &'a [String]) -> Result<Vec<RequestedLabel<'a>>, Fault>
     ensures { ReadsLabels (labels_of (map string_bytes words.now)) result }
 {
     let mut labels = Vec::new(alloc);
@@ -157,11 +157,11 @@ fn read_labels<'a>(alloc: Global, words: &'a [String]) -> Result<Vec<AskedLabel<
 }
 
 /// The label that three words name, if two of them are numbers and the first isn't the greater.
-fn read_label<'a>(start: &str, end: &str, text: &'a str) -> Option<AskedLabel<'a>>
+fn read_label<'a>(start: &str, end: &str, text: &'a str) -> Option<RequestedLabel<'a>>
     ensures { option_map label_asking result ≡ label_of start.now end.now text.now }
 {
     let place = Place::new(number(start)?, number(end)?)?;
-    Some(AskedLabel { place, text })
+    Some(RequestedLabel { place, text })
 }
 
 /// The number that a word of decimal digits writes, if it fits `usize`.

@@ -2,7 +2,7 @@
 
 use ariadne_documents::parsed_document;
 use ariadne_json::read_value;
-use ariadne_parse::{Change, Diagnostic, End, Place, Proposal, Spot, Unit};
+use ariadne_parse::{Change, Diagnostic, End, Location, Proposal, Span, Unit};
 use serde_json::Value;
 use std::alloc::{AllocError, Global};
 use std::process::Abort;
@@ -45,39 +45,39 @@ pub fn value_text(alloc: Global, value: &Value) -> Result<String, AllocError> {
 /// Diagnostics in rows.
 pub fn all_text(alloc: Global, all: &[Diagnostic]) -> Result<String, AllocError> {
     let mut text = String::new(alloc);
-    for told in all {
-        push_told(alloc, &mut text, told)?;
+    for parsed in all {
+        push_parsed(alloc, &mut text, parsed)?;
     }
     Ok(text)
 }
 
 /// Adds the rows of a diagnostic.
-fn push_told(alloc: Global, text: &mut String, told: &Diagnostic) -> Result<(), AllocError> {
-    let message = told.message.as_str();
-    let code = told.code.as_ref().map_or("", |code| code.as_str());
-    text.push_str(format!(in alloc; "{:?} ({code}) {message}\n", told.severity)?.as_str())?;
-    push_places(alloc, text, told.places.as_slice())?;
-    push_texts(alloc, text, "note", told.notes.as_slice())?;
-    push_texts(alloc, text, "help", told.helps.as_slice())?;
-    push_proposals(alloc, text, told.proposals.as_slice())
+fn push_parsed(alloc: Global, text: &mut String, parsed: &Diagnostic) -> Result<(), AllocError> {
+    let message = parsed.message.as_str();
+    let code = parsed.code.as_ref().map_or("", |code| code.as_str());
+    text.push_str(format!(in alloc; "{:?} ({code}) {message}\n", parsed.severity)?.as_str())?;
+    push_spans(alloc, text, parsed.spans.as_slice())?;
+    push_texts(alloc, text, "note", parsed.notes.as_slice())?;
+    push_texts(alloc, text, "help", parsed.helps.as_slice())?;
+    push_proposals(alloc, text, parsed.proposals.as_slice())
 }
 
-/// Adds a row for each place.
-fn push_places(alloc: Global, text: &mut String, places: &[Place]) -> Result<(), AllocError> {
-    for place in places {
-        text.push_str(place_text(alloc, place)?.as_str())?;
+/// Adds a row for each span.
+fn push_spans(alloc: Global, text: &mut String, spans: &[Span]) -> Result<(), AllocError> {
+    for span in spans {
+        text.push_str(span_text(alloc, span)?.as_str())?;
     }
     Ok(())
 }
 
-/// The row of a place.
-fn place_text(alloc: Global, place: &Place) -> Result<String, AllocError> {
-    let role = if place.is_primary { "at" } else { "also" };
-    let file = place.file.as_str();
-    let start = spot_text(alloc, place.start)?;
-    let end = end_text(alloc, place.end)?;
-    let unit = unit_text(place.unit);
-    let said = place.text.as_str();
+/// The row of a span.
+fn span_text(alloc: Global, span: &Span) -> Result<String, AllocError> {
+    let role = if span.is_primary { "at" } else { "also" };
+    let file = span.file.as_str();
+    let start = location_text(alloc, span.start)?;
+    let end = end_text(alloc, span.end)?;
+    let unit = unit_text(span.unit);
+    let said = span.text.as_str();
     format!(in alloc; "  {role} {file} {start}{end} {unit}{said}\n")
 }
 
@@ -94,16 +94,16 @@ fn unit_text(unit: Unit) -> &'static str {
 /// An end behind a line.
 fn end_text(alloc: Global, end: End) -> Result<String, AllocError> {
     match end {
-        End::Before(spot) => format!(in alloc; "-{}", spot_text(alloc, spot)?),
-        End::Behind(spot) => format!(in alloc; "+{}", spot_text(alloc, spot)?),
+        End::Before(location) => format!(in alloc; "-{}", location_text(alloc, location)?),
+        End::Behind(location) => format!(in alloc; "+{}", location_text(alloc, location)?),
         End::OfWord => Ok(String::new(alloc)),
     }
 }
 
-/// A spot, as `LINE:COLUMN` or `LINE`.
-fn spot_text(alloc: Global, spot: Spot) -> Result<String, AllocError> {
-    let line = spot.line;
-    match spot.column {
+/// A location, as `LINE:COLUMN` or `LINE`.
+fn location_text(alloc: Global, location: Location) -> Result<String, AllocError> {
+    let line = location.line;
+    match location.column {
         Some(column) => format!(in alloc; "{line}:{column}"),
         None => format!(in alloc; "{line}"),
     }
@@ -141,8 +141,8 @@ fn push_proposals(alloc: Global, text: &mut String, all: &[Proposal]) -> Result<
 /// Adds changes.
 fn push_changes(alloc: Global, text: &mut String, changes: &[Change]) -> Result<(), AllocError> {
     for change in changes {
-        let start = spot_text(alloc, change.start)?;
-        let end = spot_text(alloc, change.end)?;
+        let start = location_text(alloc, change.start)?;
+        let end = location_text(alloc, change.end)?;
         let put_in = change.put_in.as_str();
         text.push_str(format!(in alloc; " {start}-{end} `{put_in}`")?.as_str())?;
     }

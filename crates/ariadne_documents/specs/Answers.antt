@@ -4,7 +4,7 @@ use Rattle.std.specs.Prelude.{ℕ, ◌≡◌, Bool, true, false, ◌&&◌, List,
 use Rattle.std.specs.declared.alloc.Global.{Global}
 use Rattle.serde_json.specs.Data.{Data}
 use Rattle.ariadne_documents.specs.Forms.{line_parsed, parsed_document}
-use Rattle.ariadne_parse.specs.ParsedLines.{IsTold, IsToldOfValue}
+use Rattle.ariadne_parse.specs.ParsedDiagnostics.{IsParsed, IsParsedOfValue}
 use Rattle.ariadne_parse.specs.Read.{read, Read}
 use Rattle.ariadne_parse.specs.declared.diagnostic.Diagnostic.{Diagnostic}
 use Rattle.ariadne_parse.specs.declared.sent.Sent.{Sent}
@@ -35,20 +35,20 @@ abbrev pub is_nothing : Answer → Bool
 is_nothing Nothing = true
 is_nothing Dropped = false
 is_nothing (Diagnostics all) = false
-is_nothing (Head told) = false
-is_nothing (Note told) = false
+is_nothing (Head parsed) = false
+is_nothing (Note parsed) = false
 
 -- an answer needs no further lines: diagnostics that are whole, or nothing that is for the reader
 abbrev pub is_whole : Answer → Bool
 is_whole Nothing = false
 is_whole Dropped = true
 is_whole (Diagnostics all) = true
-is_whole (Head told) = false
-is_whole (Note told) = false
+is_whole (Head parsed) = false
+is_whole (Note parsed) = false
 
 -- what is told may be told by a document
 abbrev pub may_be_document : Format → Answer → Bool
-may_be_document format told = reads_documents format && is_nothing told
+may_be_document format parsed = reads_documents format && is_nothing parsed
 
 -- the diagnostics of a document, if it is one
 abbrev pub IsOfDocument : Option (List Read) → Answer → Type 0
@@ -58,20 +58,20 @@ IsOfDocument (Some all) answer =
 
 -- what is told, or else what this document tells
 abbrev pub IsOrOfDocument : Bool → Option (List Read) → Answer → Answer → Type 0
-IsOrOfDocument true parsed told answer = IsOfDocument parsed answer
-IsOrOfDocument false parsed told answer = answer ≡ told
+IsOrOfDocument true of_document parsed answer = IsOfDocument of_document answer
+IsOrOfDocument false of_document parsed answer = answer ≡ parsed
 
 -- what a line tells, where these messages of cargo's were handed on before, and those after
 pub record IsLineParsed (reading : Reading) (line : List ℕ) (first last : Sent) (answer : Answer) : Type 0 where
-  pub told : Answer
-  pub by_line : IsTold reading line first last told
-  pub document : IsOrOfDocument (may_be_document reading.format told) (line_parsed line) told answer
+  pub parsed : Answer
+  pub by_line : IsParsed reading line first last parsed
+  pub document : IsOrOfDocument (may_be_document reading.format parsed) (line_parsed line) parsed answer
 
 -- what a value tells that stands in many
 pub record IsValueParsed (format : Format) (d : Data) (first last : Sent) (answer : Answer) : Type 0 where
-  pub told : Answer
-  pub by_value : IsToldOfValue format d first last told
-  pub document : IsOrOfDocument (may_be_document format told) (parsed_document d) told answer
+  pub parsed : Answer
+  pub by_value : IsParsedOfValue format d first last parsed
+  pub document : IsOrOfDocument (may_be_document format parsed) (parsed_document d) parsed answer
 
 -- what a document tells that is this value, or none
 abbrev pub IsDocumentParsed : Format → Option Data → Sent → Sent → Answer → Type 0

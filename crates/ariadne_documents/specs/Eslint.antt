@@ -5,17 +5,17 @@ use Rattle.std.specs.Prelude.{ℕ, Bool, ◌&&◌, if◌then◌else◌, List, []
 use Rattle.std.specs.Option.{option_to_list}
 use Rattle.serde_json.specs.Data.{Data, Items, no_items, item}
 use Rattle.serde_json.specs.Find.{as_array, at, get}
-use Rattle.ariadne_parse.specs.Members.{flat_items, has_number, items_in, list_at, number_at, number_of, spot_at, text_at, words_at}
-use Rattle.ariadne_parse.specs.Places.{Seen}
+use Rattle.ariadne_parse.specs.Members.{flat_items, has_number, items_in, list_at, number_at, number_of, location_at, text_at, words_at}
+use Rattle.ariadne_parse.specs.Spans.{Seen}
 use Rattle.ariadne_parse.specs.Proposed.{Edit}
 use Rattle.ariadne_parse.specs.Read.{Read}
 use Rattle.ariadne_parse.specs.TextPieces.{behind_text}
 use Rattle.ariadne_parse.specs.declared.diagnostic.Severity.{Severity}
 use Rattle.ariadne_parse.specs.declared.diagnostic.Severity.TheVariants.{Error, Warning}
-use Rattle.ariadne_parse.specs.declared.diagnostic.Spot.{Spot}
+use Rattle.ariadne_parse.specs.declared.diagnostic.Location.{Location}
 use Rattle.ariadne_parse.specs.declared.unit.Unit.TheVariants.{Utf16}
-use Rattle.ariadne_sarif.specs.DocumentParts.{are_some_of, coded, edit_between, filed, is_list_of, own_place_from, told_each, with_fix}
-use Rattle.ariadne_documents.specs.Offsets.{spot_behind}
+use Rattle.ariadne_sarif.specs.DocumentParts.{are_some_of, coded, edit_between, filed, is_list_of, own_span_from, parsed_each, with_fix}
+use Rattle.ariadne_documents.specs.Offsets.{location_behind}
 
 -- a message has a text and a severity, a file its path and its messages
 abbrev pub is_message : Data → Bool
@@ -31,9 +31,9 @@ is_eslint d = are_some_of is_file (items_in (as_array d))
 abbrev pub severity_of : Data → Severity
 severity_of d = if has_number (codes "severity") 1 d then Warning else Error
 
-abbrev pub message_place : List ℕ → Data → Option Seen
-message_place file d =
-    own_place_from file Utf16 (spot_at (codes "line") (codes "column") d) (spot_at (codes "endLine") (codes "endColumn") d)
+abbrev pub message_span : List ℕ → Data → Option Seen
+message_span file d =
+    own_span_from file Utf16 (location_at (codes "line") (codes "column") d) (location_at (codes "endLine") (codes "endColumn") d)
 
 -- ---- fixes
 
@@ -43,14 +43,14 @@ source_of d =
     unwrap_or (behind_text (239 ∷ 187 ∷ 191 ∷ []) (words_at (codes "source") d)) (words_at (codes "source") d)
 
 -- where a fix begins and where it ends, by the numbers of these in its range
-abbrev pub spot_of : ℕ → List ℕ → Data → Option Spot
-spot_of n source fix =
-    option_and_then (λ offset. spot_behind offset source)
+abbrev pub location_of : ℕ → List ℕ → Data → Option Location
+location_of n source fix =
+    option_and_then (λ offset. location_behind offset source)
     (option_and_then number_of (option_and_then (at n) (get (codes "range") fix)))
 
 abbrev pub edit_of_fix : List ℕ → Data → Option Edit
 edit_of_fix source fix =
-    option_and_then (edit_between (spot_of 0 source fix) (spot_of 1 source fix)) (text_at (codes "text") fix)
+    option_and_then (edit_between (location_of 0 source fix) (location_of 1 source fix)) (text_at (codes "text") fix)
 
 -- the change of a message, or of a suggestion
 abbrev pub edits_in : List ℕ → Data → List Edit
@@ -58,12 +58,12 @@ edits_in source d = option_to_list (option_and_then (edit_of_fix source) (get (c
 
 -- a diagnostic with that more, and why
 abbrev pub with_own_fix : List ℕ → List ℕ → List ℕ → Data → Read → Read
-with_own_fix why file source d told = with_fix why file Utf16 (edits_in source d) told
+with_own_fix why file source d parsed = with_fix why file Utf16 (edits_in source d) parsed
 
 abbrev pub with_suggestions : List ℕ → List ℕ → Items → Read → Read
-with_suggestions file source no_items told = told
-with_suggestions file source (item d items) told =
-    with_suggestions file source items (with_own_fix (words_at (codes "desc") d) file source d told)
+with_suggestions file source no_items parsed = parsed
+with_suggestions file source (item d items) parsed =
+    with_suggestions file source items (with_own_fix (words_at (codes "desc") d) file source d parsed)
 
 -- ---- messages
 
@@ -71,7 +71,7 @@ with_suggestions file source (item d items) told =
 abbrev pub unfixed : List ℕ → Data → Read
 unfixed file d =
     coded (text_at (codes "ruleId") d)
-    (filed (severity_of d) (words_at (codes "message") d) file (message_place file d))
+    (filed (severity_of d) (words_at (codes "message") d) file (message_span file d))
 
 abbrev pub message_read : List ℕ → List ℕ → Data → Read
 message_read file source d =
@@ -79,9 +79,9 @@ message_read file source d =
     (with_own_fix [] file source d (unfixed file d))
 
 -- the messages of a file, and of all files
-abbrev pub file_told : Data → List Read
-file_told d =
-    told_each (message_read (words_at (codes "filePath") d) (source_of d)) (items_in (list_at (codes "messages") d))
+abbrev pub file_parsed : Data → List Read
+file_parsed d =
+    parsed_each (message_read (words_at (codes "filePath") d) (source_of d)) (items_in (list_at (codes "messages") d))
 
-abbrev pub eslint_told : Data → List Read
-eslint_told d = flat_items file_told (items_in (as_array d))
+abbrev pub eslint_parsed : Data → List Read
+eslint_parsed d = flat_items file_parsed (items_in (as_array d))

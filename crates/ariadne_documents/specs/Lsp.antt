@@ -7,18 +7,18 @@ use Rattle.std.specs.Option.{option_or}
 use Rattle.serde_json.specs.Data.{Data, Items, no_items, item}
 use Rattle.serde_json.specs.Find.{get}
 use Rattle.ariadne_parse.specs.Members.{end_before, has_number, has_words, items_in, list_at, number_at, text_at, words_at}
-use Rattle.ariadne_parse.specs.Places.{place_of, Seen}
+use Rattle.ariadne_parse.specs.Spans.{span_of, Seen}
 use Rattle.ariadne_parse.specs.Read.{Read}
 use Rattle.ariadne_parse.specs.declared.diagnostic.Severity.{Severity}
 use Rattle.ariadne_parse.specs.declared.diagnostic.Severity.TheVariants.{Error, Warning, Note}
-use Rattle.ariadne_parse.specs.declared.diagnostic.Spot.{Spot}
+use Rattle.ariadne_parse.specs.declared.diagnostic.Location.{Location}
 use Rattle.ariadne_parse.specs.declared.unit.Unit.TheVariants.{Utf16}
-use Rattle.ariadne_sarif.specs.DocumentParts.{coded, filed, is_list_of, own_place_from, range_spot, told_each}
+use Rattle.ariadne_sarif.specs.DocumentParts.{coded, filed, is_list_of, own_span_from, range_location, parsed_each}
 use Rattle.ariadne_sarif.specs.Uris.{path_of}
 
 -- a diagnostic has a range and a message, and the published ones a URI
 abbrev pub is_published : Data → Bool
-is_published d = is_some (range_spot (codes "start") d) && is_some (text_at (codes "message") d)
+is_published d = is_some (range_location (codes "start") d) && is_some (text_at (codes "message") d)
 
 abbrev pub is_of_file : Data → Bool
 is_of_file d = is_some (text_at (codes "uri") d) && is_list_of (codes "diagnostics") is_published d
@@ -43,39 +43,39 @@ severity_of d =
 abbrev pub code_of : Data → Option (List ℕ)
 code_of d = option_or (text_at (codes "code") d) (option_map decimal (number_at (codes "code") d))
 
--- the place of what is related, which says its message
-abbrev pub related_at : Data → List ℕ → Spot → Seen
+-- the span of what is related, which says its message
+abbrev pub related_at : Data → List ℕ → Location → Seen
 related_at location said start =
-    record (place_of (path_of (words_at (codes "uri") location)) start
-    (end_before (range_spot (codes "end") location)) Utf16) {
+    record (span_of (path_of (words_at (codes "uri") location)) start
+    (end_before (range_location (codes "end") location)) Utf16) {
       text = said;
     }
 
-abbrev pub related_place : Data → Option Seen
-related_place d =
+abbrev pub related_span : Data → Option Seen
+related_span d =
     option_and_then
-    (λ location. option_map (related_at location (words_at (codes "message") d)) (range_spot (codes "start") location))
+    (λ location. option_map (related_at location (words_at (codes "message") d)) (range_location (codes "start") location))
     (get (codes "location") d)
 
-abbrev pub related_places : Items → List Seen
-related_places no_items = []
-related_places (item d items) = cons_option (related_place d) (related_places items)
+abbrev pub related_spans : Items → List Seen
+related_spans no_items = []
+related_spans (item d items) = cons_option (related_span d) (related_spans items)
 
 -- a diagnostic of a file, and all
-abbrev pub published_place : List ℕ → Data → Option Seen
-published_place file d = own_place_from file Utf16 (range_spot (codes "start") d) (range_spot (codes "end") d)
+abbrev pub published_span : List ℕ → Data → Option Seen
+published_span file d = own_span_from file Utf16 (range_location (codes "start") d) (range_location (codes "end") d)
 
-abbrev pub with_places : List Seen → Read → Read
-with_places places told = record told { places = told.places ++ places }
+abbrev pub with_spans : List Seen → Read → Read
+with_spans spans parsed = record parsed { spans = parsed.spans ++ spans }
 
 abbrev pub published_read : List ℕ → Data → Read
 published_read file d =
-    with_places (related_places (items_in (list_at (codes "relatedInformation") d)))
-    (coded (code_of d) (filed (severity_of d) (words_at (codes "message") d) file (published_place file d)))
+    with_spans (related_spans (items_in (list_at (codes "relatedInformation") d)))
+    (coded (code_of d) (filed (severity_of d) (words_at (codes "message") d) file (published_span file d)))
 
-abbrev pub file_told : Data → List Read
-file_told d =
-    told_each (published_read (path_of (words_at (codes "uri") d))) (items_in (list_at (codes "diagnostics") d))
+abbrev pub file_parsed : Data → List Read
+file_parsed d =
+    parsed_each (published_read (path_of (words_at (codes "uri") d))) (items_in (list_at (codes "diagnostics") d))
 
-abbrev pub lsp_told : Data → List Read
-lsp_told d = file_told (params_of d)
+abbrev pub lsp_parsed : Data → List Read
+lsp_parsed d = file_parsed (params_of d)

@@ -1,8 +1,8 @@
--- The place of an offset in a text, by its line and its column, which count from 1. Offsets and columns count UTF-16. A text
+-- The span of an offset in a text, by its line and its column, which count from 1. Offsets and columns count UTF-16. A text
 -- stands as its bytes in UTF-8: the first byte of a character that takes four is 240 or more, those behind the first are
 -- from 128 to 191, and 10 is a line feed.
 use Rattle.std.specs.Prelude.{ℕ, ◌+◌, ◌-◌, ◌==◌, nat_le, nat_lt, ◌||◌, if◌then◌else◌, List, [], ◌∷◌, Option, Some, None}
-use Rattle.ariadne_parse.specs.declared.diagnostic.Spot.{Spot}
+use Rattle.ariadne_parse.specs.declared.diagnostic.Location.{Location}
 use Rattle.ariadne_documents.specs.declared.offsets.Walk.{Walk}
 
 -- how many units the character has that a byte begins; none, where it begins none
@@ -24,13 +24,13 @@ walked walk [] = walk
 walked walk (b ∷ t) = walked (step walk b) t
 
 -- where a walk ends, if it came as far as it was to
-abbrev pub end_of : Walk → Option Spot
+abbrev pub end_of : Walk → Option Location
 end_of walk =
     if walk.left == 0 then Some (record { line = walk.line; column = Some walk.column }) else None
 
--- the place behind so many units of a text, if it has as many
+-- the span behind so many units of a text, if it has as many
 abbrev pub start : ℕ → Walk
 start offset = record { left = offset; line = 1; column = 1 }
 
-abbrev pub spot_behind : ℕ → List ℕ → Option Spot
-spot_behind offset text = end_of (walked (start offset) text)
+abbrev pub location_behind : ℕ → List ℕ → Option Location
+location_behind offset text = end_of (walked (start offset) text)

@@ -1,22 +1,22 @@
 -- What the list becomes that ruff writes by `--output-format=json`. Columns count characters from 1, and ends stand behind
--- what is meant. The rows of a notebook are those of one of its cells, which is no place of its file.
+-- what is meant. The rows of a notebook are those of one of its cells, which is no span of its file.
 use Rattle.std.specs.Prelude.{ℕ, Bool, ◌&&◌, if◌then◌else◌, List, codes, Option, None, is_some, option_and_then, []}
 use Rattle.serde_json.specs.Data.{Data, Items}
 use Rattle.serde_json.specs.Find.{as_array}
 use Rattle.ariadne_parse.specs.Members.{items_in, number_at, severity_at, text_at, words_at}
-use Rattle.ariadne_parse.specs.Places.{Seen}
+use Rattle.ariadne_parse.specs.Spans.{Seen}
 use Rattle.ariadne_parse.specs.Proposed.{Edit}
 use Rattle.ariadne_parse.specs.Read.{Read}
-use Rattle.ariadne_parse.specs.declared.diagnostic.Spot.{Spot}
+use Rattle.ariadne_parse.specs.declared.diagnostic.Location.{Location}
 use Rattle.ariadne_parse.specs.declared.unit.Unit.TheVariants.{Char}
-use Rattle.ariadne_sarif.specs.DocumentParts.{are_some_of, coded, edit_between, edits_of, filed, items_within, own_place_from, spot_in, told_each, with_fix, words_within}
+use Rattle.ariadne_sarif.specs.DocumentParts.{are_some_of, coded, edit_between, edits_of, filed, items_within, own_span_from, location_in, parsed_each, with_fix, words_within}
 
 -- where something begins, and where it ends
-abbrev pub start_of : Data → Option Spot
-start_of d = spot_in (codes "location") (codes "row") (codes "column") d
+abbrev pub start_of : Data → Option Location
+start_of d = location_in (codes "location") (codes "row") (codes "column") d
 
-abbrev pub end_of : Data → Option Spot
-end_of d = spot_in (codes "end_location") (codes "row") (codes "column") d
+abbrev pub end_of : Data → Option Location
+end_of d = location_in (codes "end_location") (codes "row") (codes "column") d
 
 -- a violation has a file, a message and a location
 abbrev pub is_violation : Data → Bool
@@ -26,10 +26,10 @@ is_violation d =
 abbrev pub is_ruff : Data → Bool
 is_ruff d = are_some_of is_violation (items_in (as_array d))
 
-abbrev pub violation_place : Data → Option Seen
-violation_place d =
+abbrev pub violation_span : Data → Option Seen
+violation_span d =
     if is_some (number_at (codes "cell") d) then None
-    else own_place_from (words_at (codes "filename") d) Char (start_of d) (end_of d)
+    else own_span_from (words_at (codes "filename") d) Char (start_of d) (end_of d)
 
 -- its fix: edits in the same file, and why
 abbrev pub edit_of : Data → Option Edit
@@ -50,7 +50,7 @@ violation_read d =
     with_fix (reason_of d) (words_at (codes "filename") d) Char (edits_in d)
     (coded (text_at (codes "code") d)
     (filed (severity_at (codes "severity") d) (words_at (codes "message") d) (words_at (codes "filename") d)
-    (violation_place d)))
+    (violation_span d)))
 
-abbrev pub ruff_told : Data → List Read
-ruff_told d = told_each violation_read (items_in (as_array d))
+abbrev pub ruff_parsed : Data → List Read
+ruff_parsed d = parsed_each violation_read (items_in (as_array d))

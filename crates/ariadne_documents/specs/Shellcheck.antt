@@ -3,14 +3,14 @@
 use Rattle.std.specs.Prelude.{ℕ, Bool, ◌&&◌, List, [], ◌++◌, codes, decimal, Option, is_some, option_and_then, option_map}
 use Rattle.serde_json.specs.Data.{Data, Items}
 use Rattle.serde_json.specs.Find.{as_object}
-use Rattle.ariadne_parse.specs.Members.{items_in, list_at, number_at, severity_at, spot_at, text_at, words_at}
-use Rattle.ariadne_parse.specs.Places.{Seen}
+use Rattle.ariadne_parse.specs.Members.{items_in, list_at, number_at, severity_at, location_at, text_at, words_at}
+use Rattle.ariadne_parse.specs.Spans.{Seen}
 use Rattle.ariadne_parse.specs.Proposed.{Edit}
 use Rattle.ariadne_parse.specs.Read.{Read}
-use Rattle.ariadne_parse.specs.declared.diagnostic.Spot.{Spot}
+use Rattle.ariadne_parse.specs.declared.diagnostic.Location.{Location}
 use Rattle.ariadne_parse.specs.declared.unit.Unit.TheVariants.{Char}
 use Rattle.ariadne_documents.specs.Objects.{is_one, members_in}
-use Rattle.ariadne_sarif.specs.DocumentParts.{coded, edit_between, edits_of, filed, is_list_of, items_within, own_place_from, told_each, with_fix}
+use Rattle.ariadne_sarif.specs.DocumentParts.{coded, edit_between, edits_of, filed, is_list_of, items_within, own_span_from, parsed_each, with_fix}
 
 -- a comment has a file, a line, a level and a message
 abbrev pub is_comment : Data → Bool
@@ -23,14 +23,14 @@ abbrev pub is_shellcheck : Data → Bool
 is_shellcheck d = is_one (members_in (as_object d)) && is_list_of (codes "comments") is_comment d
 
 -- where a comment begins, and where it ends
-abbrev pub start_of : Data → Option Spot
-start_of d = spot_at (codes "line") (codes "column") d
+abbrev pub start_of : Data → Option Location
+start_of d = location_at (codes "line") (codes "column") d
 
-abbrev pub end_of : Data → Option Spot
-end_of d = spot_at (codes "endLine") (codes "endColumn") d
+abbrev pub end_of : Data → Option Location
+end_of d = location_at (codes "endLine") (codes "endColumn") d
 
-abbrev pub comment_place : Data → Option Seen
-comment_place d = own_place_from (words_at (codes "file") d) Char (start_of d) (end_of d)
+abbrev pub comment_span : Data → Option Seen
+comment_span d = own_span_from (words_at (codes "file") d) Char (start_of d) (end_of d)
 
 -- its code is a number, which stands behind SC
 abbrev pub comment_code : Data → Option (List ℕ)
@@ -50,10 +50,10 @@ edits_in d = edits_of replacement_edit (replacements_of d)
 abbrev pub unfixed : Data → Read
 unfixed d =
     coded (comment_code d)
-    (filed (severity_at (codes "level") d) (words_at (codes "message") d) (words_at (codes "file") d) (comment_place d))
+    (filed (severity_at (codes "level") d) (words_at (codes "message") d) (words_at (codes "file") d) (comment_span d))
 
 abbrev pub comment_read : Data → Read
 comment_read d = with_fix [] (words_at (codes "file") d) Char (edits_in d) (unfixed d)
 
-abbrev pub shellcheck_told : Data → List Read
-shellcheck_told d = told_each comment_read (items_in (list_at (codes "comments") d))
+abbrev pub shellcheck_parsed : Data → List Read
+shellcheck_parsed d = parsed_each comment_read (items_in (list_at (codes "comments") d))

@@ -11,7 +11,7 @@ ghost use Rattle.ariadne_documents.specs.Answers as answers;
 
 use crate::document::Document;
 use crate::form::{line_parsed, parsed_document};
-use ariadne_parse::{Answer, Diagnostic, Format, Reading, Sent, told, told_by_value};
+use ariadne_parse::{Answer, Diagnostic, Format, Reading, Sent, parsed, parsed_by_value};
 use serde_json::Value;
 use std::alloc::{AllocError, Global};
 
@@ -34,7 +34,7 @@ pub fn line_answer(
 ) -> Result<Answer, AllocError>
     ensures { IfOk result (IsLineParsed reading line.now sent.old sent.new) }
 {
-    let answer = told(alloc, reading, sent, line)?;
+    let answer = parsed(alloc, reading, sent, line)?;
     if may_be_document(reading.format, &answer) {
         return Ok(answer_with(line_parsed(alloc, line)?));
     }
@@ -66,7 +66,7 @@ fn value_answer(
     requires { nesting (view value.now) ≤ max_depth }
     ensures { IfOk result (IsValueParsed format (view value.now) sent.old sent.new) }
 {
-    let answer = told_by_value(alloc, format, sent, value)?;
+    let answer = parsed_by_value(alloc, format, sent, value)?;
     if may_be_document(format, &answer) {
         return Ok(answer_with(parsed_document(alloc, value)?));
     }

@@ -4,21 +4,21 @@ ghost use Rattle.std.specs.Prelude.{◌≡◌, ◌++◌, codes, map, option_and_
 ghost use Rattle.serde_json.specs.Find.{get};
 ghost use Rattle.serde_json.specs.View.{items_view, view};
 ghost use Rattle.ariadne_parse.specs.Members.{all_items, flat_items};
-ghost use Rattle.ariadne_parse.specs.Places.{seen};
+ghost use Rattle.ariadne_parse.specs.Spans.{seen};
 ghost use Rattle.ariadne_parse.specs.Proposed.{edit_of};
 ghost use Rattle.ariadne_parse.specs.Read.{read};
 ghost use Rattle.ariadne_documents.specs.Eslint as eslint;
-ghost use Rattle.ariadne_sarif.specs.DocumentParts.{told_each};
+ghost use Rattle.ariadne_sarif.specs.DocumentParts.{parsed_each};
 ghost use Rattle.ariadne_sarif.specs.Fixing.{edit_of_piece};
 
-use crate::offsets::spot_behind;
+use crate::offsets::location_behind;
 use ariadne_parse::json::{
     copied_text, has_list, has_number, items, number, text, usize_of, words,
 };
 use ariadne_parse::pieces::behind_text;
-use ariadne_parse::{Change, Diagnostic, Place, Severity, Spot, Unit};
+use ariadne_parse::{Change, Diagnostic, Location, Severity, Span, Unit};
 use ariadne_sarif::fixing::{Piece, change, push_fix};
-use ariadne_sarif::parts::{filed, listed, own_place, spot};
+use ariadne_sarif::parts::{filed, listed, location, own_span};
 use serde_json::Value;
 use std::alloc::{AllocError, Global};
 
@@ -73,16 +73,16 @@ fn is_message(value: &Value) -> bool
 }
 
 /// The diagnostics of all files.
-pub(crate) fn told_by_eslint(alloc: Global, value: &Value) -> Result<Vec<Diagnostic>, AllocError>
-    ensures { IfOk result (λ all. map read all.items ≡ eslint.eslint_told (view value.now)) }
+pub(crate) fn parsed_by_eslint(alloc: Global, value: &Value) -> Result<Vec<Diagnostic>, AllocError>
+    ensures { IfOk result (λ all. map read all.items ≡ eslint.eslint_parsed (view value.now)) }
 {
-    told_by_files(alloc, listed(value))
+    parsed_by_files(alloc, listed(value))
 }
 
 /// The diagnostics of these files.
-fn told_by_files(alloc: Global, files: &[Value]) -> Result<Vec<Diagnostic>, AllocError>
+fn parsed_by_files(alloc: Global, files: &[Value]) -> Result<Vec<Diagnostic>, AllocError>
     ensures { IfOk result (λ all.
-        map read all.items ≡ flat_items eslint.file_told (items_view files.now)) }
+        map read all.items ≡ flat_items eslint.file_parsed (items_view files.now)) }
 {
     let mut all = Vec::new(alloc);
     for file in files {
@@ -114,38 +114,44 @@ fn push_messages(
     messages: &[Value],
 ) -> Result<(), AllocError>
     ensures { OnOk result (map read all.new.items ≡ map read all.old.items
-        ++ told_each (eslint.message_read file.now source.now) (items_view messages.now)) }
+        ++ parsed_each (eslint.message_read file.now source.now) (items_view messages.now)) }
 {
     for message in messages {
-        all.push(told_by_message(alloc, file, source, message)?)?;
+        all.push(parsed_by_message(alloc, file, source, message)?)?;
     }
     Ok(())
 }
 
 /// The diagnostic of a message of a file with this source.
-fn told_by_message(
+fn parsed_by_message(
     alloc: Global,
     file: &str,
     source: &str,
     value: &Value,
 ) -> Result<Diagnostic, AllocError>
-    ensures { IfOk result (λ told. read told ≡ eslint.message_read file.now source.now (view value.now)) }
+    ensures { IfOk result (λ parsed. read parsed ≡ eslint.message_read file.now source.now (view value.now)) }
 {
-    let mut told = unfixed(alloc, file, value)?;
-    push_own_fix(alloc, &mut told, "", file, source, value)?;
-    push_suggestions(alloc, &mut told, file, source, items(value, "suggestions"))?;
-    Ok(told)
+    let mut parsed = unfixed(alloc, file, value)?;
+    push_own_fix(alloc, &mut parsed, "", file, source, value)?;
+    push_suggestions(
+        alloc,
+        &mut parsed,
+        file,
+        source,
+        items(value, "suggestions"),
+    )?;
+    Ok(parsed)
 }
 
 /// The diagnostic of a message of a file, without what fixes it.
 fn unfixed(alloc: Global, file: &str, value: &Value) -> Result<Diagnostic, AllocError>
-    ensures { IfOk result (λ told. read told ≡ eslint.unfixed file.now (view value.now)) }
+    ensures { IfOk result (λ parsed. read parsed ≡ eslint.unfixed file.now (view value.now)) }
 {
-    let place = message_place(alloc, file, value)?;
+    let span = message_span(alloc, file, value)?;
     let message = words(value, "message");
-    let mut told = filed(alloc, severity_of(value), message, file, place)?;
-    told.code = copied_text(alloc, value, "ruleId")?;
-    Ok(told)
+    let mut parsed = filed(alloc, severity_of(value), message, file, span)?;
+    parsed.code = copied_text(alloc, value, "ruleId")?;
+    Ok(parsed)
 }
 
 /// How bad a message is.
@@ -159,30 +165,30 @@ fn severity_of(value: &Value) -> Severity
     }
 }
 
-/// The place of a message, if it names a line.
-fn message_place(alloc: Global, file: &str, value: &Value) -> Result<Option<Place>, AllocError>
-    ensures { IfOk result (λ it. option_map seen it ≡ eslint.message_place file.now (view value.now)) }
+/// The span of a message, if it names a line.
+fn message_span(alloc: Global, file: &str, value: &Value) -> Result<Option<Span>, AllocError>
+    ensures { IfOk result (λ it. option_map seen it ≡ eslint.message_span file.now (view value.now)) }
 {
-    let start = spot(value, "line", "column");
-    let end = spot(value, "endLine", "endColumn");
-    own_place(alloc, file, Unit::Utf16, start, end)
+    let start = location(value, "line", "column");
+    let end = location(value, "endLine", "endColumn");
+    own_span(alloc, file, Unit::Utf16, start, end)
 }
 
 /// Adds what is suggested for a message.
 fn push_suggestions(
     alloc: Global,
-    told: &mut Diagnostic,
+    parsed: &mut Diagnostic,
     file: &str,
     source: &str,
     suggestions: &[Value],
 ) -> Result<(), AllocError>
-    ensures { OnOk result (read told.new
-        ≡ eslint.with_suggestions file.now source.now (items_view suggestions.now) (read told.old)) }
+    ensures { OnOk result (read parsed.new
+        ≡ eslint.with_suggestions file.now source.now (items_view suggestions.now) (read parsed.old)) }
 {
     for suggestion in suggestions {
         push_own_fix(
             alloc,
-            told,
+            parsed,
             words(suggestion, "desc"),
             file,
             source,
@@ -195,17 +201,17 @@ fn push_suggestions(
 /// Adds the fix of a message or a suggestion, and why.
 fn push_own_fix(
     alloc: Global,
-    told: &mut Diagnostic,
+    parsed: &mut Diagnostic,
     why: &str,
     file: &str,
     source: &str,
     value: &Value,
 ) -> Result<(), AllocError>
-    ensures { OnOk result (read told.new
-        ≡ eslint.with_own_fix why.now file.now source.now (view value.now) (read told.old)) }
+    ensures { OnOk result (read parsed.new
+        ≡ eslint.with_own_fix why.now file.now source.now (view value.now) (read parsed.old)) }
 {
     let changes = changes_in(alloc, source, value)?;
-    push_fix(alloc, told, why, file, Unit::Utf16, changes)
+    push_fix(alloc, parsed, why, file, Unit::Utf16, changes)
 }
 
 /// The change of a message or a suggestion, if it has one.
@@ -228,15 +234,15 @@ fn piece_in<'v>(source: &str, value: &'v Value) -> Option<Piece<'v>>
     let fix = value.get("fix")?;
     Some(Piece {
         put_in: text(fix, "text")?,
-        start: spot_of(0, source, fix)?,
-        end: spot_of(1, source, fix)?,
+        start: location_of(0, source, fix)?,
+        end: location_of(1, source, fix)?,
     })
 }
 
 /// Where a fix begins, or where it ends, by its number in the range.
-fn spot_of(number: usize, source: &str, fix: &Value) -> Option<Spot>
-    ensures { result ≡ eslint.spot_of number source.now (view fix.now) }
+fn location_of(number: usize, source: &str, fix: &Value) -> Option<Location>
+    ensures { result ≡ eslint.location_of number source.now (view fix.now) }
 {
     let offset = usize_of(fix.get("range")?.get(number)?)?;
-    spot_behind(offset, source)
+    location_behind(offset, source)
 }

@@ -2,23 +2,23 @@
 
 ghost use Rattle.std.specs.Prelude.{◌≡◌, map, option_map, IfOk};
 ghost use Rattle.serde_json.specs.View.{view};
-ghost use Rattle.ariadne_parse.specs.ParsedLines.{begins_as_json as is_begun_as_json};
+ghost use Rattle.ariadne_parse.specs.ParsedDiagnostics.{begins_as_json as is_begun_as_json};
 ghost use Rattle.ariadne_parse.specs.Read.{read};
 ghost use Rattle.ariadne_documents.specs.Forms as forms;
 
-use crate::eslint::{is_eslint, told_by_eslint};
-use crate::lsp::{is_lsp, told_by_lsp};
-use crate::pyright::{is_pyright, told_by_pyright};
-use crate::ruff::{is_ruff, told_by_ruff};
-use crate::shellcheck::{is_shellcheck, told_by_shellcheck};
-use crate::vet::{is_vet, told_by_vet};
+use crate::eslint::{is_eslint, parsed_by_eslint};
+use crate::lsp::{is_lsp, parsed_by_lsp};
+use crate::pyright::{is_pyright, parsed_by_pyright};
+use crate::ruff::{is_ruff, parsed_by_ruff};
+use crate::shellcheck::{is_shellcheck, parsed_by_shellcheck};
+use crate::vet::{is_vet, parsed_by_vet};
 use ariadne_json::read_value;
 use ariadne_parse::Diagnostic;
-use ariadne_sarif::sarif::{is_sarif, told_by_sarif};
+use ariadne_sarif::sarif::{is_sarif, parsed_by_sarif};
 use serde_json::Value;
 use std::alloc::{AllocError, Global};
 
-/// The form of a document. Those of rustc and gcc are told by `ariadne_parse::told_by_value`.
+/// The form of a document. Those of rustc and gcc are told by `ariadne_parse::parsed_by_value`.
 #[derive(Clone, Copy, Debug, PartialEq, Eq)]
 pub enum Form {
     /// A log of SARIF 2.1.0.
@@ -62,18 +62,18 @@ pub fn form_of(value: &Value) -> Option<Form>
 }
 
 /// The diagnostics that a value of a form tells, in its order. There may be none. On `Err` there was no memory.
-#[tactic(auto, unfolding(crate::specs::Forms::told_in))]
-pub fn told_in(alloc: Global, form: Form, value: &Value) -> Result<Vec<Diagnostic>, AllocError>
-    ensures { IfOk result (λ all. map read all.items ≡ forms.told_in form (view value.now)) }
+#[tactic(auto, unfolding(crate::specs::Forms::parsed_in))]
+pub fn parsed_in(alloc: Global, form: Form, value: &Value) -> Result<Vec<Diagnostic>, AllocError>
+    ensures { IfOk result (λ all. map read all.items ≡ forms.parsed_in form (view value.now)) }
 {
     match form {
-        Form::Sarif => told_by_sarif(alloc, value),
-        Form::Shellcheck => told_by_shellcheck(alloc, value),
-        Form::Eslint => told_by_eslint(alloc, value),
-        Form::Ruff => told_by_ruff(alloc, value),
-        Form::Pyright => told_by_pyright(alloc, value),
-        Form::Lsp => told_by_lsp(alloc, value),
-        Form::Vet => told_by_vet(alloc, value),
+        Form::Sarif => parsed_by_sarif(alloc, value),
+        Form::Shellcheck => parsed_by_shellcheck(alloc, value),
+        Form::Eslint => parsed_by_eslint(alloc, value),
+        Form::Ruff => parsed_by_ruff(alloc, value),
+        Form::Pyright => parsed_by_pyright(alloc, value),
+        Form::Lsp => parsed_by_lsp(alloc, value),
+        Form::Vet => parsed_by_vet(alloc, value),
     }
 }
 
@@ -81,11 +81,11 @@ pub fn told_in(alloc: Global, form: Form, value: &Value) -> Result<Vec<Diagnosti
 ///
 /// On `Err` there was no memory.
 pub fn parsed_document(alloc: Global, value: &Value) -> Result<Option<Vec<Diagnostic>>, AllocError>
-    ensures { IfOk result (λ told.
-        option_map (λ all. map read all.items) told ≡ forms.parsed_document (view value.now)) }
+    ensures { IfOk result (λ parsed.
+        option_map (λ all. map read all.items) parsed ≡ forms.parsed_document (view value.now)) }
 {
     match form_of(value) {
-        Some(form) => Ok(Some(told_in(alloc, form, value)?)),
+        Some(form) => Ok(Some(parsed_in(alloc, form, value)?)),
         None => Ok(None),
     }
 }
@@ -94,8 +94,8 @@ pub fn parsed_document(alloc: Global, value: &Value) -> Result<Option<Vec<Diagno
 ///
 /// On `Err` there was no memory.
 pub fn line_parsed(alloc: Global, line: &str) -> Result<Option<Vec<Diagnostic>>, AllocError>
-    ensures { IfOk result (λ told.
-        option_map (λ all. map read all.items) told ≡ forms.line_parsed line.now) }
+    ensures { IfOk result (λ parsed.
+        option_map (λ all. map read all.items) parsed ≡ forms.line_parsed line.now) }
 {
     if !begins_as_json(line) {
         return Ok(None);

@@ -16,4 +16,4 @@ mod vet;
 
 pub use answer::{document_answer, line_answer, reads_values};
 pub use document::{Document, MOST_BYTES, Step, begins};
-pub use form::{Form, form_of, line_parsed, parsed_document, told_in};
+pub use form::{Form, form_of, line_parsed, parsed_document, parsed_in};

@@ -3,16 +3,16 @@
 ghost use Rattle.std.specs.Prelude.{◌≡◌, ◌++◌, map, option_map, string_bytes, IfOk, OnOk};
 ghost use Rattle.serde_json.specs.View.{items_view, view};
 ghost use Rattle.ariadne_parse.specs.Members.{all_items};
-ghost use Rattle.ariadne_parse.specs.Places.{seen};
+ghost use Rattle.ariadne_parse.specs.Spans.{seen};
 ghost use Rattle.ariadne_parse.specs.Read.{read};
 ghost use Rattle.ariadne_documents.specs.Lsp as lsp;
-ghost use Rattle.ariadne_sarif.specs.DocumentParts.{told_each};
+ghost use Rattle.ariadne_sarif.specs.DocumentParts.{parsed_each};
 
 use ariadne_parse::json::{
     copied_text, has_list, has_number, has_words, items, number, text, words,
 };
-use ariadne_parse::{Diagnostic, Place, Severity, Unit, place};
-use ariadne_sarif::parts::{end_of, filed, own_place, range_spot};
+use ariadne_parse::{Diagnostic, Severity, Span, Unit, span};
+use ariadne_sarif::parts::{end_of, filed, own_span, range_location};
 use ariadne_sarif::uri::path_of;
 use serde_json::Value;
 use std::alloc::{AllocError, Global};
@@ -60,59 +60,59 @@ fn are_published(values: &[Value]) -> bool
 fn is_published(value: &Value) -> bool
     ensures { result ≡ lsp.is_published (view value.now) }
 {
-    range_spot(value, "start").is_some() && text(value, "message").is_some()
+    range_location(value, "start").is_some() && text(value, "message").is_some()
 }
 
 /// The diagnostics that a value publishes.
-pub(crate) fn told_by_lsp(alloc: Global, value: &Value) -> Result<Vec<Diagnostic>, AllocError>
-    ensures { IfOk result (λ all. map read all.items ≡ lsp.lsp_told (view value.now)) }
+pub(crate) fn parsed_by_lsp(alloc: Global, value: &Value) -> Result<Vec<Diagnostic>, AllocError>
+    ensures { IfOk result (λ all. map read all.items ≡ lsp.lsp_parsed (view value.now)) }
 {
-    told_of_file(alloc, params_of(value))
+    parsed_of_file(alloc, params_of(value))
 }
 
 /// The diagnostics of a file.
-fn told_of_file(alloc: Global, value: &Value) -> Result<Vec<Diagnostic>, AllocError>
-    ensures { IfOk result (λ all. map read all.items ≡ lsp.file_told (view value.now)) }
+fn parsed_of_file(alloc: Global, value: &Value) -> Result<Vec<Diagnostic>, AllocError>
+    ensures { IfOk result (λ all. map read all.items ≡ lsp.file_parsed (view value.now)) }
 {
     let file = path_of(alloc, words(value, "uri"))?;
-    told_by_published(alloc, file.as_str(), items(value, "diagnostics"))
+    parsed_by_published(alloc, file.as_str(), items(value, "diagnostics"))
 }
 
 /// These diagnostics of a file.
-fn told_by_published(
+fn parsed_by_published(
     alloc: Global,
     file: &str,
     values: &[Value],
 ) -> Result<Vec<Diagnostic>, AllocError>
     ensures { IfOk result (λ all.
-        map read all.items ≡ told_each (lsp.published_read file.now) (items_view values.now)) }
+        map read all.items ≡ parsed_each (lsp.published_read file.now) (items_view values.now)) }
 {
     let mut all = Vec::new(alloc);
     for value in values {
-        all.push(told_by_one(alloc, file, value)?)?;
+        all.push(parsed_by_one(alloc, file, value)?)?;
     }
     Ok(all)
 }
 
 /// A diagnostic of a file.
-fn told_by_one(alloc: Global, file: &str, value: &Value) -> Result<Diagnostic, AllocError>
-    ensures { IfOk result (λ told. read told ≡ lsp.published_read file.now (view value.now)) }
+fn parsed_by_one(alloc: Global, file: &str, value: &Value) -> Result<Diagnostic, AllocError>
+    ensures { IfOk result (λ parsed. read parsed ≡ lsp.published_read file.now (view value.now)) }
 {
-    let place = published_place(alloc, file, value)?;
+    let span = published_span(alloc, file, value)?;
     let message = words(value, "message");
-    let mut told = filed(alloc, severity_of(value), message, file, place)?;
-    told.code = code_of(alloc, value)?;
-    push_related(alloc, &mut told.places, items(value, "relatedInformation"))?;
-    Ok(told)
+    let mut parsed = filed(alloc, severity_of(value), message, file, span)?;
+    parsed.code = code_of(alloc, value)?;
+    push_related(alloc, &mut parsed.spans, items(value, "relatedInformation"))?;
+    Ok(parsed)
 }
 
-/// The place of a diagnostic.
-fn published_place(alloc: Global, file: &str, value: &Value) -> Result<Option<Place>, AllocError>
-    ensures { IfOk result (λ it. option_map seen it ≡ lsp.published_place file.now (view value.now)) }
+/// The span of a diagnostic.
+fn published_span(alloc: Global, file: &str, value: &Value) -> Result<Option<Span>, AllocError>
+    ensures { IfOk result (λ it. option_map seen it ≡ lsp.published_span file.now (view value.now)) }
 {
-    let start = range_spot(value, "start");
-    let end = range_spot(value, "end");
-    own_place(alloc, file, Unit::Utf16, start, end)
+    let start = range_location(value, "start");
+    let end = range_location(value, "end");
+    own_span(alloc, file, Unit::Utf16, start, end)
 }
 
 /// How bad a diagnostic is.
@@ -139,32 +139,32 @@ fn code_of(alloc: Global, value: &Value) -> Result<Option<String>, AllocError>
     }
 }
 
-/// Adds the places of what is related to a diagnostic.
-fn push_related(alloc: Global, places: &mut Vec<Place>, related: &[Value]) -> Result<(), AllocError>
-    ensures { OnOk result (map seen places.new.items
-        ≡ map seen places.old.items ++ lsp.related_places (items_view related.now)) }
+/// Adds the spans of what is related to a diagnostic.
+fn push_related(alloc: Global, spans: &mut Vec<Span>, related: &[Value]) -> Result<(), AllocError>
+    ensures { OnOk result (map seen spans.new.items
+        ≡ map seen spans.old.items ++ lsp.related_spans (items_view related.now)) }
 {
     for value in related {
-        if let Some(place) = related_place(alloc, value)? {
-            places.push(place)?;
+        if let Some(span) = related_span(alloc, value)? {
+            spans.push(span)?;
         }
     }
     Ok(())
 }
 
-/// The place of what is related, if it has one. It says the message.
-fn related_place(alloc: Global, value: &Value) -> Result<Option<Place>, AllocError>
-    ensures { IfOk result (λ it. option_map seen it ≡ lsp.related_place (view value.now)) }
+/// The span of what is related, if it has one. It says the message.
+fn related_span(alloc: Global, value: &Value) -> Result<Option<Span>, AllocError>
+    ensures { IfOk result (λ it. option_map seen it ≡ lsp.related_span (view value.now)) }
 {
     let Some(location) = value.get("location") else {
         return Ok(None);
     };
-    let Some(start) = range_spot(location, "start") else {
+    let Some(start) = range_location(location, "start") else {
         return Ok(None);
     };
     let file = path_of(alloc, words(location, "uri"))?;
-    let end = end_of(range_spot(location, "end"));
-    let mut place = place(alloc, file.as_str(), start, end, Unit::Utf16)?;
-    place.text = String::from_str(alloc, words(value, "message"))?;
-    Ok(Some(place))
+    let end = end_of(range_location(location, "end"));
+    let mut span = span(alloc, file.as_str(), start, end, Unit::Utf16)?;
+    span.text = String::from_str(alloc, words(value, "message"))?;
+    Ok(Some(span))
 }

@@ -3,7 +3,7 @@
 ghost use Rattle.std.specs.Prelude.{◌≡◌, ◌-◌, ◌<◌, ◌^◌};
 ghost use Rattle.ariadne_documents.specs.Offsets as offsets;
 
-use ariadne_parse::Spot;
+use ariadne_parse::Location;
 
 /// How far a walk through a text has come.
 #[derive(Clone, Copy, Debug)]
@@ -51,13 +51,13 @@ impl Walk {
     }
 
     /// Where it ends, if it came as far as it was to.
-    fn end(self) -> Option<Spot>
+    fn end(self) -> Option<Location>
         ensures { result ≡ offsets.end_of self }
     {
         if self.left > 0 {
             return None;
         }
-        Some(Spot {
+        Some(Location {
             line: self.line,
             column: Some(self.column),
         })
@@ -77,9 +77,9 @@ fn units(byte: u8) -> usize
     }
 }
 
-/// The place behind so many units of a text, if it has as many.
-pub(crate) fn spot_behind(offset: usize, text: &str) -> Option<Spot>
-    ensures { result ≡ offsets.spot_behind offset text.now }
+/// The span behind so many units of a text, if it has as many.
+pub(crate) fn location_behind(offset: usize, text: &str) -> Option<Location>
+    ensures { result ≡ offsets.location_behind offset text.now }
 {
     walked(offset, text.as_bytes()).end()
 }

@@ -3,17 +3,17 @@
 ghost use Rattle.std.specs.Prelude.{◌≡◌, map, option_map, IfOk};
 ghost use Rattle.serde_json.specs.View.{items_view, view};
 ghost use Rattle.ariadne_parse.specs.Members.{all_items};
-ghost use Rattle.ariadne_parse.specs.Places.{seen};
+ghost use Rattle.ariadne_parse.specs.Spans.{seen};
 ghost use Rattle.ariadne_parse.specs.Proposed.{edit_of};
 ghost use Rattle.ariadne_parse.specs.Read.{read};
 ghost use Rattle.ariadne_sarif.specs.Fixing.{edit_of_piece};
-ghost use Rattle.ariadne_sarif.specs.DocumentParts.{told_each};
+ghost use Rattle.ariadne_sarif.specs.DocumentParts.{parsed_each};
 ghost use Rattle.ariadne_documents.specs.Ruff as ruff;
 
 use ariadne_parse::json::{copied_text, number, severity, text, words};
-use ariadne_parse::{Change, Diagnostic, Place, Spot, Unit};
+use ariadne_parse::{Change, Diagnostic, Location, Span, Unit};
 use ariadne_sarif::fixing::{Piece, TellsChange, changes_of, push_fix};
-use ariadne_sarif::parts::{filed, items_within, listed, own_place, spot_in, words_within};
+use ariadne_sarif::parts::{filed, items_within, listed, location_in, own_span, words_within};
 use serde_json::Value;
 use std::alloc::{AllocError, Global};
 
@@ -49,48 +49,48 @@ fn is_violation(value: &Value) -> bool
 }
 
 /// The diagnostics of violations.
-pub(crate) fn told_by_ruff(alloc: Global, value: &Value) -> Result<Vec<Diagnostic>, AllocError>
-    ensures { IfOk result (λ all. map read all.items ≡ ruff.ruff_told (view value.now)) }
+pub(crate) fn parsed_by_ruff(alloc: Global, value: &Value) -> Result<Vec<Diagnostic>, AllocError>
+    ensures { IfOk result (λ all. map read all.items ≡ ruff.ruff_parsed (view value.now)) }
 {
-    told_by_violations(alloc, listed(value))
+    parsed_by_violations(alloc, listed(value))
 }
 
 /// The diagnostics of these violations.
-fn told_by_violations(alloc: Global, violations: &[Value]) -> Result<Vec<Diagnostic>, AllocError>
+fn parsed_by_violations(alloc: Global, violations: &[Value]) -> Result<Vec<Diagnostic>, AllocError>
     ensures { IfOk result (λ all.
-        map read all.items ≡ told_each ruff.violation_read (items_view violations.now)) }
+        map read all.items ≡ parsed_each ruff.violation_read (items_view violations.now)) }
 {
     let mut all = Vec::new(alloc);
     for violation in violations {
-        all.push(told_by_violation(alloc, violation)?)?;
+        all.push(parsed_by_violation(alloc, violation)?)?;
     }
     Ok(all)
 }
 
 /// The diagnostic of a violation.
-fn told_by_violation(alloc: Global, value: &Value) -> Result<Diagnostic, AllocError>
-    ensures { IfOk result (λ told. read told ≡ ruff.violation_read (view value.now)) }
+fn parsed_by_violation(alloc: Global, value: &Value) -> Result<Diagnostic, AllocError>
+    ensures { IfOk result (λ parsed. read parsed ≡ ruff.violation_read (view value.now)) }
 {
     let file = words(value, "filename");
-    let place = violation_place(alloc, value)?;
+    let span = violation_span(alloc, value)?;
     let level = severity(value, "severity");
-    let mut told = filed(alloc, level, words(value, "message"), file, place)?;
-    told.code = copied_text(alloc, value, "code")?;
+    let mut parsed = filed(alloc, level, words(value, "message"), file, span)?;
+    parsed.code = copied_text(alloc, value, "code")?;
     let why = words_within(value, "fix", "message");
     let changes = fix_changes(alloc, value)?;
-    push_fix(alloc, &mut told, why, file, Unit::Char, changes)?;
-    Ok(told)
+    push_fix(alloc, &mut parsed, why, file, Unit::Char, changes)?;
+    Ok(parsed)
 }
 
-/// The place of a violation, if that isn't in a cell of a notebook.
-fn violation_place(alloc: Global, value: &Value) -> Result<Option<Place>, AllocError>
-    ensures { IfOk result (λ it. option_map seen it ≡ ruff.violation_place (view value.now)) }
+/// The span of a violation, if that isn't in a cell of a notebook.
+fn violation_span(alloc: Global, value: &Value) -> Result<Option<Span>, AllocError>
+    ensures { IfOk result (λ it. option_map seen it ≡ ruff.violation_span (view value.now)) }
 {
     if number(value, "cell").is_some() {
         return Ok(None);
     }
     let file = words(value, "filename");
-    own_place(alloc, file, Unit::Char, start_of(value), end_of(value))
+    own_span(alloc, file, Unit::Char, start_of(value), end_of(value))
 }
 
 /// The changes that fix a violation, if that isn't in a cell of a notebook.
@@ -104,17 +104,17 @@ fn fix_changes(alloc: Global, value: &Value) -> Result<Vec<Change>, AllocError>
 }
 
 /// Where a violation begins, or an edit.
-fn start_of(value: &Value) -> Option<Spot>
+fn start_of(value: &Value) -> Option<Location>
     ensures { result ≡ ruff.start_of (view value.now) }
 {
-    spot_in(value, "location", "row", "column")
+    location_in(value, "location", "row", "column")
 }
 
 /// Where it ends: in front of this.
-fn end_of(value: &Value) -> Option<Spot>
+fn end_of(value: &Value) -> Option<Location>
     ensures { result ≡ ruff.end_of (view value.now) }
 {
-    spot_in(value, "end_location", "row", "column")
+    location_in(value, "end_location", "row", "column")
 }
 
 /// The edits of a fix.

@@ -4,18 +4,18 @@ ghost use Rattle.std.specs.Prelude.{◌≡◌, map, option_map, string_bytes, If
 ghost use Rattle.serde_json.specs.Find.{as_object};
 ghost use Rattle.serde_json.specs.View.{items_view, members_view, view};
 ghost use Rattle.ariadne_parse.specs.Members.{all_items};
-ghost use Rattle.ariadne_parse.specs.Places.{seen};
+ghost use Rattle.ariadne_parse.specs.Spans.{seen};
 ghost use Rattle.ariadne_parse.specs.Proposed.{edit_of};
 ghost use Rattle.ariadne_parse.specs.Read.{read};
 ghost use Rattle.ariadne_sarif.specs.Fixing.{edit_of_piece};
-ghost use Rattle.ariadne_sarif.specs.DocumentParts.{told_each};
+ghost use Rattle.ariadne_sarif.specs.DocumentParts.{parsed_each};
 ghost use Rattle.ariadne_documents.specs.Objects.{is_one, members_in};
 ghost use Rattle.ariadne_documents.specs.Shellcheck as shellcheck;
 
 use ariadne_parse::json::{has_list, items, number, severity, text, words};
-use ariadne_parse::{Change, Diagnostic, Place, Spot, Unit};
+use ariadne_parse::{Change, Diagnostic, Location, Span, Unit};
 use ariadne_sarif::fixing::{Piece, TellsChange, changes_of, push_fix};
-use ariadne_sarif::parts::{filed, items_within, own_place, spot};
+use ariadne_sarif::parts::{filed, items_within, location, own_span};
 use serde_json::{Map, Value};
 use std::alloc::{AllocError, Global};
 
@@ -66,54 +66,54 @@ fn is_comment(value: &Value) -> bool
 }
 
 /// The diagnostics of comments.
-pub(crate) fn told_by_shellcheck(
+pub(crate) fn parsed_by_shellcheck(
     alloc: Global,
     value: &Value,
 ) -> Result<Vec<Diagnostic>, AllocError>
-    ensures { IfOk result (λ all. map read all.items ≡ shellcheck.shellcheck_told (view value.now)) }
+    ensures { IfOk result (λ all. map read all.items ≡ shellcheck.shellcheck_parsed (view value.now)) }
 {
-    told_by_comments(alloc, items(value, "comments"))
+    parsed_by_comments(alloc, items(value, "comments"))
 }
 
 /// The diagnostics of these comments.
-fn told_by_comments(alloc: Global, comments: &[Value]) -> Result<Vec<Diagnostic>, AllocError>
+fn parsed_by_comments(alloc: Global, comments: &[Value]) -> Result<Vec<Diagnostic>, AllocError>
     ensures { IfOk result (λ all.
-        map read all.items ≡ told_each shellcheck.comment_read (items_view comments.now)) }
+        map read all.items ≡ parsed_each shellcheck.comment_read (items_view comments.now)) }
 {
     let mut all = Vec::new(alloc);
     for comment in comments {
-        all.push(told_by_comment(alloc, comment)?)?;
+        all.push(parsed_by_comment(alloc, comment)?)?;
     }
     Ok(all)
 }
 
 /// The diagnostic of a comment.
-fn told_by_comment(alloc: Global, value: &Value) -> Result<Diagnostic, AllocError>
-    ensures { IfOk result (λ told. read told ≡ shellcheck.comment_read (view value.now)) }
+fn parsed_by_comment(alloc: Global, value: &Value) -> Result<Diagnostic, AllocError>
+    ensures { IfOk result (λ parsed. read parsed ≡ shellcheck.comment_read (view value.now)) }
 {
-    let mut told = unfixed(alloc, value)?;
+    let mut parsed = unfixed(alloc, value)?;
     let changes = fix_changes(alloc, value)?;
     push_fix(
         alloc,
-        &mut told,
+        &mut parsed,
         "",
         words(value, "file"),
         Unit::Char,
         changes,
     )?;
-    Ok(told)
+    Ok(parsed)
 }
 
 /// The diagnostic of a comment, without its fix.
 fn unfixed(alloc: Global, value: &Value) -> Result<Diagnostic, AllocError>
-    ensures { IfOk result (λ told. read told ≡ shellcheck.unfixed (view value.now)) }
+    ensures { IfOk result (λ parsed. read parsed ≡ shellcheck.unfixed (view value.now)) }
 {
     let file = words(value, "file");
-    let place = comment_place(alloc, value)?;
+    let span = comment_span(alloc, value)?;
     let level = severity(value, "level");
-    let mut told = filed(alloc, level, words(value, "message"), file, place)?;
-    told.code = comment_code(alloc, value)?;
-    Ok(told)
+    let mut parsed = filed(alloc, level, words(value, "message"), file, span)?;
+    parsed.code = comment_code(alloc, value)?;
+    Ok(parsed)
 }
 
 /// The changes that fix a comment.
@@ -124,26 +124,26 @@ fn fix_changes(alloc: Global, value: &Value) -> Result<Vec<Change>, AllocError>
     changes_of::<Replacement>(alloc, replacements)
 }
 
-/// The place of a comment.
-fn comment_place(alloc: Global, value: &Value) -> Result<Option<Place>, AllocError>
-    ensures { IfOk result (λ it. option_map seen it ≡ shellcheck.comment_place (view value.now)) }
+/// The span of a comment.
+fn comment_span(alloc: Global, value: &Value) -> Result<Option<Span>, AllocError>
+    ensures { IfOk result (λ it. option_map seen it ≡ shellcheck.comment_span (view value.now)) }
 {
     let file = words(value, "file");
-    own_place(alloc, file, Unit::Char, start_of(value), end_of(value))
+    own_span(alloc, file, Unit::Char, start_of(value), end_of(value))
 }
 
 /// Where a comment begins, or a replacement.
-fn start_of(value: &Value) -> Option<Spot>
+fn start_of(value: &Value) -> Option<Location>
     ensures { result ≡ shellcheck.start_of (view value.now) }
 {
-    spot(value, "line", "column")
+    location(value, "line", "column")
 }
 
 /// Where it ends: in front of this.
-fn end_of(value: &Value) -> Option<Spot>
+fn end_of(value: &Value) -> Option<Location>
     ensures { result ≡ shellcheck.end_of (view value.now) }
 {
-    spot(value, "endLine", "endColumn")
+    location(value, "endLine", "endColumn")
 }
 
 /// The code of a comment: its number behind `SC`.

@@ -4,16 +4,16 @@ ghost use Rattle.std.specs.Prelude.{◌≡◌, ◌++◌, is_some, map, option_ma
 ghost use Rattle.serde_json.specs.View.{items_view, members_view, view};
 ghost use Rattle.serde_json.specs.Find.{as_array};
 ghost use Rattle.ariadne_parse.specs.Members.{all_items};
-ghost use Rattle.ariadne_parse.specs.Places.{seen};
+ghost use Rattle.ariadne_parse.specs.Spans.{seen};
 ghost use Rattle.ariadne_parse.specs.Read.{read};
-ghost use Rattle.ariadne_sarif.specs.DocumentParts.{are_some_of, told_each};
+ghost use Rattle.ariadne_sarif.specs.DocumentParts.{are_some_of, parsed_each};
 ghost use Rattle.ariadne_documents.specs.Objects.{all_members, any_member, flat_members};
 ghost use Rattle.ariadne_documents.specs.Vet as vet;
 
 use ariadne_parse::json::{text, words};
 use ariadne_parse::pieces::{split_at_last, whole_number};
-use ariadne_parse::{Diagnostic, Place, Severity, Spot, Unit};
-use ariadne_sarif::parts::{filed, listed, own_place};
+use ariadne_parse::{Diagnostic, Location, Severity, Span, Unit};
+use ariadne_sarif::parts::{filed, listed, own_span};
 use serde_json::{Map, Value};
 use std::alloc::{AllocError, Global};
 
@@ -133,8 +133,8 @@ fn is_vetted(value: &Value) -> bool
 }
 
 /// The diagnostics of all packages.
-pub(crate) fn told_by_vet(alloc: Global, value: &Value) -> Result<Vec<Diagnostic>, AllocError>
-    ensures { IfOk result (λ all. map read all.items ≡ vet.vet_told (view value.now)) }
+pub(crate) fn parsed_by_vet(alloc: Global, value: &Value) -> Result<Vec<Diagnostic>, AllocError>
+    ensures { IfOk result (λ all. map read all.items ≡ vet.vet_parsed (view value.now)) }
 {
     let mut all = Vec::new(alloc);
     if let Some(packages) = value.as_object() {
@@ -150,7 +150,7 @@ fn push_packages(
     packages: &Map<String, Value>,
 ) -> Result<(), AllocError>
     ensures { OnOk result (map read all.new.items ≡ map read all.old.items
-        ++ flat_members vet.package_told (members_view packages.now.entries)) }
+        ++ flat_members vet.package_parsed (members_view packages.now.entries)) }
 {
     for (_, package) in packages {
         if let Some(analyzers) = package.as_object() {
@@ -167,7 +167,7 @@ fn push_analyzers(
     analyzers: &Map<String, Value>,
 ) -> Result<(), AllocError>
     ensures { OnOk result (map read all.new.items ≡ map read all.old.items
-        ++ flat_members vet.analyzer_told (members_view analyzers.now.entries)) }
+        ++ flat_members vet.analyzer_parsed (members_view analyzers.now.entries)) }
 {
     for (name, analyzer) in analyzers {
         push_analyzer(alloc, all, name.as_str(), analyzer)?;
@@ -183,13 +183,13 @@ fn push_analyzer(
     value: &Value,
 ) -> Result<(), AllocError>
     ensures { OnOk result (map read all.new.items ≡ map read all.old.items
-        ++ vet.analyzer_told name.now (view value.now)) }
+        ++ vet.analyzer_parsed name.now (view value.now)) }
 {
     push_vetted(alloc, all, name, listed(value))?;
     if let Some(error) = text(value, "error") {
-        let mut told = Diagnostic::new(alloc, Severity::Error, error)?;
-        told.code = Some(String::from_str(alloc, name)?);
-        all.push(told)?;
+        let mut parsed = Diagnostic::new(alloc, Severity::Error, error)?;
+        parsed.code = Some(String::from_str(alloc, name)?);
+        all.push(parsed)?;
     }
     Ok(())
 }
@@ -202,60 +202,60 @@ fn push_vetted(
     values: &[Value],
 ) -> Result<(), AllocError>
     ensures { OnOk result (map read all.new.items ≡ map read all.old.items
-        ++ told_each (vet.vetted_read name.now) (items_view values.now)) }
+        ++ parsed_each (vet.vetted_read name.now) (items_view values.now)) }
 {
     for value in values {
-        all.push(told_by_one(alloc, name, value)?)?;
+        all.push(parsed_by_one(alloc, name, value)?)?;
     }
     Ok(())
 }
 
 /// A diagnostic of an analyzer.
-fn told_by_one(alloc: Global, name: &str, value: &Value) -> Result<Diagnostic, AllocError>
-    ensures { IfOk result (λ told. read told ≡ vet.vetted_read name.now (view value.now)) }
+fn parsed_by_one(alloc: Global, name: &str, value: &Value) -> Result<Diagnostic, AllocError>
+    ensures { IfOk result (λ parsed. read parsed ≡ vet.vetted_read name.now (view value.now)) }
 {
     let position = words(value, "posn");
-    let place = vetted_place(alloc, value)?;
+    let span = vetted_span(alloc, value)?;
     let message = words(value, "message");
-    let mut told = filed(alloc, Severity::Error, message, position, place)?;
-    told.code = Some(String::from_str(alloc, name)?);
-    Ok(told)
+    let mut parsed = filed(alloc, Severity::Error, message, position, span)?;
+    parsed.code = Some(String::from_str(alloc, name)?);
+    Ok(parsed)
 }
 
-/// The place of a diagnostic, if its position has a line.
-fn vetted_place(alloc: Global, value: &Value) -> Result<Option<Place>, AllocError>
-    ensures { IfOk result (λ it. option_map seen it ≡ vet.vetted_place (view value.now)) }
+/// The span of a diagnostic, if its position has a line.
+fn vetted_span(alloc: Global, value: &Value) -> Result<Option<Span>, AllocError>
+    ensures { IfOk result (λ it. option_map seen it ≡ vet.vetted_span (view value.now)) }
 {
     match position_of(words(value, "posn")) {
-        Some((file, start)) => own_place(alloc, file, Unit::Byte, Some(start), end_of(value)),
+        Some((file, start)) => own_span(alloc, file, Unit::Byte, Some(start), end_of(value)),
         None => Ok(None),
     }
 }
 
 /// Where a diagnostic ends, if it says so.
-fn end_of(value: &Value) -> Option<Spot>
+fn end_of(value: &Value) -> Option<Location>
     ensures { result ≡ vet.end_of (view value.now) }
 {
     let (_, end) = position_of(words(value, "end"))?;
     Some(end)
 }
 
-/// The file and the spot of a position `FILE:LINE:COLUMN` or `FILE:LINE`.
-fn position_of(text: &str) -> Option<(&str, Spot)>
+/// The file and the location of a position `FILE:LINE:COLUMN` or `FILE:LINE`.
+fn position_of(text: &str) -> Option<(&str, Location)>
     ensures { option_map (λ at. (at.0.now, at.1)) result ≡ vet.position_of text.now }
 {
     let (front, last) = split_number(text)?;
     match split_number(front) {
         Some((file, line)) => Some((
             file,
-            Spot {
+            Location {
                 line,
                 column: Some(last),
             },
         )),
         None => Some((
             front,
-            Spot {
+            Location {
                 line: last,
                 column: None,
             },

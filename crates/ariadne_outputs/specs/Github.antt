@@ -12,10 +12,10 @@ use Rattle.ariadne_safe.specs.declared.text.TextKind.TheVariants.{OneRow}
 use Rattle.ariadne_parse.specs.declared.diagnostic.Diagnostic.{Diagnostic}
 use Rattle.ariadne_parse.specs.declared.diagnostic.Severity.{Severity}
 use Rattle.ariadne_parse.specs.declared.diagnostic.Severity.TheVariants.{Error, Warning, Note}
-use Rattle.ariadne_parse.specs.declared.diagnostic.Spot.{Spot}
+use Rattle.ariadne_parse.specs.declared.diagnostic.Location.{Location}
 use Rattle.ariadne_outputs.specs.declared.github.Role.{Role}
 use Rattle.ariadne_outputs.specs.declared.github.Role.TheVariants.{Message, Property}
-use Rattle.ariadne_outputs.specs.Located.{Location, first_of, others_of, said_at, whole_of}
+use Rattle.ariadne_outputs.specs.Located.{LocatedSpan, first_of, others_of, said_at, whole_of}
 
 -- ---- escapes
 
@@ -51,24 +51,24 @@ abbrev pub with_number : List ℕ → List ℕ → Option ℕ → List ℕ
 with_number properties name None = properties
 with_number properties name (Some number) = with_property properties name (decimal number)
 
--- the end of a place, if it is known. No column stands where it is on another line than its start
-abbrev pub with_end : Bool → List ℕ → Option Spot → List ℕ
+-- the end of a span, if it is known. No column stands where it is on another line than its start
+abbrev pub with_end : Bool → List ℕ → Option Location → List ℕ
 with_end is_one_line properties None = properties
 with_end is_one_line properties (Some end) =
     with_number (with_number properties (codes "endLine") (Some end.line)) (codes "endColumn")
     (if is_one_line then end.column else None)
 
--- a place in one line
-abbrev pub is_in_line : Location → Bool
+-- a span in one line
+abbrev pub is_in_line : LocatedSpan → Bool
 is_in_line it = (unwrap_or it.end it.start).line == it.start.line
 
--- those of a place: its file, its lines, and its columns
-abbrev pub place_properties : Option Location → List ℕ
-place_properties None = []
-place_properties (Some it) =
+-- those of a span: its file, its lines, and its columns
+abbrev pub span_properties : Option LocatedSpan → List ℕ
+span_properties None = []
+span_properties (Some it) =
     with_end (is_in_line it)
     (with_number
-    (with_number (with_property [] (codes "file") (string_bytes it.place.file)) (codes "line")
+    (with_number (with_property [] (codes "file") (string_bytes it.span.file)) (codes "line")
     (Some it.start.line))
     (codes "col") (if is_in_line it then it.start.column else None))
     it.end
@@ -91,19 +91,19 @@ command word properties message =
     codes "::" ++ word ++ (if length properties == 0 then [] else codes " " ++ properties) ++ codes "::"
     ++ escaped Message message ++ 10 ∷ []
 
--- that of another place, if something is said of it
-abbrev pub notice_of : Location → List ℕ
+-- that of another span, if something is said of it
+abbrev pub notice_of : LocatedSpan → List ℕ
 notice_of it =
     if length (said_at it) == 0 then []
-    else command (codes "notice") (place_properties (Some it)) (said_at it)
+    else command (codes "notice") (span_properties (Some it)) (said_at it)
 
 -- those of a diagnostic
-abbrev pub github_commands : Diagnostic → List Location → List ℕ
-github_commands told locations =
-    command (command_word told.severity)
-    (with_title (place_properties (first_of locations)) told.code)
-    (whole_of told (first_of locations))
-    ++ flat_map notice_of (others_of locations)
+abbrev pub github_commands : Diagnostic → List LocatedSpan → List ℕ
+github_commands parsed located_spans =
+    command (command_word parsed.severity)
+    (with_title (span_properties (first_of located_spans)) parsed.code)
+    (whole_of parsed (first_of located_spans))
+    ++ flat_map notice_of (others_of located_spans)
 
 -- ---- lines that pass
 

@@ -14,8 +14,8 @@ use Rattle.percent_encoding.specs.Percent.{percent_encode_byte}
 use Rattle.ariadne_safe.specs.Visible.{visible_bytes}
 use Rattle.ariadne_safe.specs.declared.text.TextKind.TheVariants.{Aside}
 use Rattle.ariadne_parse.specs.declared.diagnostic.Diagnostic.{Diagnostic}
-use Rattle.ariadne_parse.specs.declared.diagnostic.Spot.{Spot}
-use Rattle.ariadne_outputs.specs.Located.{Location, first_of, others_of, said_at, severity_word}
+use Rattle.ariadne_parse.specs.declared.diagnostic.Location.{Location}
+use Rattle.ariadne_outputs.specs.Located.{LocatedSpan, first_of, others_of, said_at, severity_word}
 use Rattle.ariadne_outputs.specs.Located.{whole_of}
 
 -- ---- texts
@@ -53,20 +53,20 @@ with_column name (Some column) members =
     if nat_lt 0 column then put name (number_data column) members else members
 
 -- a line, and a column
-abbrev pub with_spot : List ℕ → List ℕ → Spot → Members → Members
-with_spot line_name column_name spot members =
-    with_column column_name spot.column (put line_name (number_data spot.line) members)
+abbrev pub with_location : List ℕ → List ℕ → Location → Members → Members
+with_location line_name column_name location members =
+    with_column column_name location.column (put line_name (number_data location.line) members)
 
-abbrev pub with_end : Option Spot → Members → Members
+abbrev pub with_end : Option Location → Members → Members
 with_end None members = members
-with_end (Some end) members = with_spot (codes "endLine") (codes "endColumn") end members
+with_end (Some end) members = with_location (codes "endLine") (codes "endColumn") end members
 
-abbrev pub region_of : Location → Data
+abbrev pub region_of : LocatedSpan → Data
 region_of it =
-    object (with_end it.end (with_spot (codes "startLine") (codes "startColumn") it.start no_members))
+    object (with_end it.end (with_location (codes "startLine") (codes "startColumn") it.start no_members))
 
 -- a region, where the line counts from 1
-abbrev pub with_region : Location → Members → Members
+abbrev pub with_region : LocatedSpan → Members → Members
 with_region it members =
     if nat_lt 0 it.start.line then put (codes "region") (region_of it) members else members
 
@@ -74,12 +74,12 @@ abbrev pub file_data : List ℕ → Data
 file_data path = object (put (codes "uri") (string (uri_of path)) no_members)
 
 -- the members of a location
-abbrev pub location_members : Location → Members
-location_members it =
+abbrev pub sarif_location_members : LocatedSpan → Members
+sarif_location_members it =
     put (codes "physicalLocation")
     (object
     (with_region it
-    (put (codes "artifactLocation") (file_data (string_bytes it.place.file)) no_members)))
+    (put (codes "artifactLocation") (file_data (string_bytes it.span.file)) no_members)))
     no_members
 
 -- ---- results
@@ -91,32 +91,32 @@ abbrev pub with_message : List ℕ → Members → Members
 with_message text members =
     if length text == 0 then members else put (codes "message") (message_data text) members
 
-abbrev pub own_data : Option Location → List Data
+abbrev pub own_data : Option LocatedSpan → List Data
 own_data None = []
-own_data (Some main) = object (location_members main) ∷ []
+own_data (Some main) = object (sarif_location_members main) ∷ []
 
 -- other locations have numbers, and messages where something is said of them
-abbrev pub related_data : ℕ → Location → Data
+abbrev pub related_data : ℕ → LocatedSpan → Data
 related_data id it =
-    object (with_message (said_at it) (put (codes "id") (number_data id) (location_members it)))
+    object (with_message (said_at it) (put (codes "id") (number_data id) (sarif_location_members it)))
 
-abbrev pub related_datas : ℕ → List Location → List Data
+abbrev pub related_datas : ℕ → List LocatedSpan → List Data
 related_datas id [] = []
-related_datas id (it ∷ locations) = related_data id it ∷ related_datas (id + 1) locations
+related_datas id (it ∷ located_spans) = related_data id it ∷ related_datas (id + 1) located_spans
 
 abbrev pub with_rule : Option (String Global) → Members → Members
 with_rule None members = members
 with_rule (Some code) members = put (codes "ruleId") (text_data (string_bytes code)) members
 
 -- the result of a diagnostic
-abbrev pub result_of : Diagnostic → List Location → Data
-result_of told locations =
+abbrev pub result_of : Diagnostic → List LocatedSpan → Data
+result_of parsed located_spans =
     object
-    (with_rule told.code
-    (put (codes "relatedLocations") (array (items_of (related_datas 1 (others_of locations))))
-    (put (codes "message") (message_data (whole_of told (first_of locations)))
-    (put (codes "locations") (array (items_of (own_data (first_of locations))))
-    (put (codes "level") (string (severity_word told.severity)) no_members)))))
+    (with_rule parsed.code
+    (put (codes "relatedLocations") (array (items_of (related_datas 1 (others_of located_spans))))
+    (put (codes "message") (message_data (whole_of parsed (first_of located_spans)))
+    (put (codes "locations") (array (items_of (own_data (first_of located_spans))))
+    (put (codes "level") (string (severity_word parsed.severity)) no_members)))))
 
 -- ---- the document
 

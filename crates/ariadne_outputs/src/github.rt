@@ -10,12 +10,12 @@ ghost use Rattle.ariadne_outputs.specs.Github.{command_word as word_of};
 ghost use Rattle.ariadne_outputs.specs.Github.{escape_of as escape_for, escaped, escaped_code};
 ghost use Rattle.ariadne_outputs.specs.Github.{message_escape as escape_in_message};
 ghost use Rattle.ariadne_outputs.specs.Github.{github_commands, notice_of, parted, parted_by};
-ghost use Rattle.ariadne_outputs.specs.Github.{place_properties as properties_of, with_number};
+ghost use Rattle.ariadne_outputs.specs.Github.{span_properties as properties_of, with_number};
 ghost use Rattle.ariadne_outputs.specs.Github.{with_property, with_title, without_command};
-ghost use Rattle.ariadne_outputs.specs.Located.{location_of, locations_of};
+ghost use Rattle.ariadne_outputs.specs.Located.{located_span_of, located_spans_of};
 ghost use Rattle.ariadne_outputs.specs.Passing.{passed_line};
 
-use crate::located::{Located, other_places};
+use crate::located::{Located, other_spans};
 use crate::passing::passing_line;
 use crate::whole::whole_text;
 use ariadne_parse::{Diagnostic, Severity};
@@ -33,39 +33,39 @@ pub(crate) enum Role {
 }
 
 /// A diagnostic as commands, each with its line feed: one for it, whose message has its notes and helps
-/// as lines, and a `notice` for each other place that says something.
+/// as lines, and a `notice` for each other span that says something.
 ///
-/// Columns count characters. Where a place goes over several lines no column is named, since GitHub
+/// Columns count characters. Where a span goes over several lines no column is named, since GitHub
 /// takes them in one line alone. Hidden characters stand as signs. On `Err` there was no memory.
 pub fn github_text(
     alloc: Global,
-    told: &Diagnostic,
-    places: &[Located<'_>],
+    parsed: &Diagnostic,
+    spans: &[Located<'_>],
 ) -> Result<String, AllocError>
     ensures { IfOk result (λ text.
-        string_bytes text ≡ github_commands told.now (locations_of places.now)) }
+        string_bytes text ≡ github_commands parsed.now (located_spans_of spans.now)) }
 {
-    let main = places.first();
-    let properties = own_properties(alloc, told, main)?;
-    let message = whole_text(alloc, told, main)?;
-    let word = command_word(told.severity);
+    let main = spans.first();
+    let properties = own_properties(alloc, parsed, main)?;
+    let message = whole_text(alloc, parsed, main)?;
+    let word = command_word(parsed.severity);
     let mut text = String::new(alloc);
     push_command(&mut text, word, properties.as_str(), message.as_str())?;
-    push_notices(alloc, &mut text, other_places(places))?;
+    push_notices(alloc, &mut text, other_spans(spans))?;
     Ok(text)
 }
 
-/// The properties of a diagnostic: those of its own place, and its code as the title.
+/// The properties of a diagnostic: those of its own span, and its code as the title.
 fn own_properties(
     alloc: Global,
-    told: &Diagnostic,
+    parsed: &Diagnostic,
     main: Option<&Located<'_>>,
 ) -> Result<String, AllocError>
     ensures { IfOk result (λ text. string_bytes text ≡ with_title
-        (properties_of (option_map location_of (option_copied main.entry))) told.now.code) }
+        (properties_of (option_map located_span_of (option_copied main.entry))) parsed.now.code) }
 {
-    let mut properties = place_properties(alloc, main)?;
-    if let Some(code) = &told.code {
+    let mut properties = span_properties(alloc, main)?;
+    if let Some(code) = &parsed.code {
         push_property(&mut properties, "title", code.as_str())?;
     }
     Ok(properties)
@@ -148,27 +148,27 @@ fn command_word(severity: Severity) -> &'static str
     }
 }
 
-/// Adds a notice for each place that says something.
-fn push_notices(alloc: Global, text: &mut String, places: &[Located<'_>]) -> Result<(), AllocError>
+/// Adds a notice for each span that says something.
+fn push_notices(alloc: Global, text: &mut String, spans: &[Located<'_>]) -> Result<(), AllocError>
     ensures { OnOk result (string_bytes text.new ≡ string_bytes text.old
-        ++ flat_map (λ it. notice_of (location_of it)) places.now) }
+        ++ flat_map (λ it. notice_of (located_span_of it)) spans.now) }
 {
-    for it in places {
+    for it in spans {
         push_notice(alloc, text, it)?;
     }
     Ok(())
 }
 
-/// Adds the notice of a place, if that says something.
+/// Adds the notice of a span, if that says something.
 fn push_notice(alloc: Global, text: &mut String, it: &Located<'_>) -> Result<(), AllocError>
     ensures { OnOk result (string_bytes text.new
-        ≡ string_bytes text.old ++ notice_of (location_of it.now)) }
+        ≡ string_bytes text.old ++ notice_of (located_span_of it.now)) }
 {
-    if it.place.text.is_empty() {
+    if it.span.text.is_empty() {
         return Ok(());
     }
-    let properties = place_properties(alloc, Some(it))?;
-    push_command(text, "notice", properties.as_str(), it.place.text.as_str())
+    let properties = span_properties(alloc, Some(it))?;
+    push_command(text, "notice", properties.as_str(), it.span.text.as_str())
 }
 
 /// Adds a command with properties, if there are any.
@@ -192,18 +192,18 @@ fn push_command(
     text.push('\n')
 }
 
-/// The properties of a place, if there is one.
-fn place_properties(alloc: Global, place: Option<&Located<'_>>) -> Result<String, AllocError>
+/// The properties of a span, if there is one.
+fn span_properties(alloc: Global, span: Option<&Located<'_>>) -> Result<String, AllocError>
     ensures { IfOk result (λ text. string_bytes text
-        ≡ properties_of (option_map location_of (option_copied place.entry))) }
+        ≡ properties_of (option_map located_span_of (option_copied span.entry))) }
 {
     let mut text = String::new(alloc);
-    let Some(it) = place else {
+    let Some(it) = span else {
         return Ok(text);
     };
     let is_one_line = it.end.unwrap_or(it.start).line == it.start.line;
     let column = if is_one_line { it.start.column } else { None };
-    push_property(&mut text, "file", it.place.file.as_str())?;
+    push_property(&mut text, "file", it.span.file.as_str())?;
     push_number(alloc, &mut text, "line", Some(it.start.line))?;
     push_number(alloc, &mut text, "col", column)?;
     if let Some(end) = it.end {

@@ -1,33 +1,33 @@
-//! A place of a diagnostic, and where it stands in its file.
+//! A span of a diagnostic, and where it stands in its file.
 
 ghost use Rattle.std.specs.Prelude.{◌≡◌, drop};
 ghost use Rattle.ariadne_outputs.specs.Located.{severity_word as word_of};
 
-use ariadne_parse::{Place, Severity, Spot};
+use ariadne_parse::{Location, Severity, Span};
 
-/// A place of a diagnostic, and where it stands in its file. Lines and columns count from 1; what
+/// A span of a diagnostic, and where it stands in its file. Lines and columns count from 1; what
 /// columns count is said where it is asked for.
 ///
-/// The places of a diagnostic are handed on in a list, of which the first is the one that it is about.
+/// The spans of a diagnostic are handed on in a list, of which the first is the one that it is about.
 #[derive(Clone, Copy, Debug)]
 pub struct Located<'a> {
-    /// The place.
-    pub place: &'a Place,
+    /// The span.
+    pub span: &'a Span,
     /// Where the tool points.
-    pub caret: Spot,
+    pub caret: Location,
     /// Where it begins.
-    pub start: Spot,
+    pub start: Location,
     /// Where it ends: behind its last character. `None` where that isn't known.
-    pub end: Option<Spot>,
+    pub end: Option<Location>,
 }
 
-/// The places behind the first one.
-pub(crate) fn other_places<'l, 'a>(places: &'l [Located<'a>]) -> &'l [Located<'a>]
-    ensures { result.now ≡ drop 1 places.now }
+/// The spans behind the first one.
+pub(crate) fn other_spans<'l, 'a>(spans: &'l [Located<'a>]) -> &'l [Located<'a>]
+    ensures { result.now ≡ drop 1 spans.now }
 {
-    match places {
+    match spans {
         [_, others @ ..] => others,
-        [] => places,
+        [] => spans,
     }
 }
 

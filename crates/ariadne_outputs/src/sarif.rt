@@ -8,16 +8,16 @@ ghost use Rattle.percent_encoding.specs.AsciiSet.{contains};
 ghost use Rattle.serde_json.specs.Data.{array};
 ghost use Rattle.serde_json.specs.View.{items_of, members_view, view};
 ghost use Rattle.serde_json.specs.Written.{compact_text};
-ghost use Rattle.ariadne_outputs.specs.Located.{location_of, locations_of};
-ghost use Rattle.ariadne_outputs.specs.Sarif.{driver_of, file_data, is_in_uri, location_members};
+ghost use Rattle.ariadne_outputs.specs.Located.{located_span_of, located_spans_of};
+ghost use Rattle.ariadne_outputs.specs.Sarif.{driver_of, file_data, is_in_uri, sarif_location_members};
 ghost use Rattle.ariadne_outputs.specs.Sarif.{message_data, own_data, region_of, related_data, related_datas};
 ghost use Rattle.ariadne_outputs.specs.Sarif.{result_of, scheme_of, text_data, uri_of};
 ghost use Rattle.ariadne_outputs.specs.Sarif.{with_end, with_message, with_region, with_rule};
-ghost use Rattle.ariadne_outputs.specs.Sarif.{with_spot};
+ghost use Rattle.ariadne_outputs.specs.Sarif.{with_location};
 
-use crate::located::{Located, other_places, severity_word};
+use crate::located::{Located, other_spans, severity_word};
 use crate::whole::whole_text;
-use ariadne_parse::{Diagnostic, Spot};
+use ariadne_parse::{Diagnostic, Location};
 use ariadne_safe::{TextKind, visible};
 use percent_encoding::{AsciiSet, NON_ALPHANUMERIC, utf8_percent_encode};
 use serde_json::{Map, Value, put};
@@ -72,36 +72,36 @@ fn driver(alloc: Global, version: &str) -> Result<Value, AllocError>
 /// A result of SARIF in one line of JSON, without what ends it.
 ///
 /// Columns count characters. The message has the notes and helps of the diagnostic as lines; its other
-/// places are related locations. Hidden characters stand as signs. On `Err` there was no memory.
+/// spans are related locations. Hidden characters stand as signs. On `Err` there was no memory.
 pub fn sarif_result(
     alloc: Global,
-    told: &Diagnostic,
-    places: &[Located<'_>],
+    parsed: &Diagnostic,
+    spans: &[Located<'_>],
 ) -> Result<String, AllocError>
     ensures { IfOk result (λ text.
-        string_bytes text ≡ compact_text (result_of told.now (locations_of places.now))) }
+        string_bytes text ≡ compact_text (result_of parsed.now (located_spans_of spans.now))) }
 {
-    result_value(alloc, told, places)?.to_string(alloc)
+    result_value(alloc, parsed, spans)?.to_string(alloc)
 }
 
 /// The result of a diagnostic.
 fn result_value(
     alloc: Global,
-    told: &Diagnostic,
-    places: &[Located<'_>],
+    parsed: &Diagnostic,
+    spans: &[Located<'_>],
 ) -> Result<Value, AllocError>
-    ensures { IfOk result (λ value. view value ≡ result_of told.now (locations_of places.now)) }
+    ensures { IfOk result (λ value. view value ≡ result_of parsed.now (located_spans_of spans.now)) }
 {
-    let main = places.first();
-    let word = Value::try_from_str(alloc, severity_word(told.severity))?;
-    let message = whole_text(alloc, told, main)?;
+    let main = spans.first();
+    let word = Value::try_from_str(alloc, severity_word(parsed.severity))?;
+    let message = whole_text(alloc, parsed, main)?;
     let mut members = Map::new(alloc);
     put(&mut members, alloc, "level", word)?;
     put(
         &mut members,
         alloc,
         "locations",
-        own_locations(alloc, main)?,
+        own_sarif_locations(alloc, main)?,
     )?;
     put(
         &mut members,
@@ -113,9 +113,9 @@ fn result_value(
         &mut members,
         alloc,
         "relatedLocations",
-        related_locations(alloc, other_places(places))?,
+        related_sarif_locations(alloc, other_spans(spans))?,
     )?;
-    put_rule(alloc, &mut members, told.code.as_ref())?;
+    put_rule(alloc, &mut members, parsed.code.as_ref())?;
     Ok(Value::from(members))
 }
 
@@ -151,36 +151,36 @@ fn message_value(alloc: Global, text: &str) -> Result<Value, AllocError>
 }
 
 /// The list of a diagnostic's own location, if it has one.
-fn own_locations(alloc: Global, main: Option<&Located<'_>>) -> Result<Value, AllocError>
+fn own_sarif_locations(alloc: Global, main: Option<&Located<'_>>) -> Result<Value, AllocError>
     ensures { IfOk result (λ value. view value
-        ≡ array (items_of (own_data (option_map location_of (option_copied main.entry))))) }
+        ≡ array (items_of (own_data (option_map located_span_of (option_copied main.entry))))) }
 {
     let mut all = Vec::new(alloc);
     if let Some(main) = main {
-        all.push(Value::Object(location(alloc, main)?))?;
+        all.push(Value::Object(sarif_location(alloc, main)?))?;
     }
     Ok(Value::Array(all))
 }
 
 /// The list of other locations, which have numbers from 1, and messages where they say something.
-fn related_locations(alloc: Global, places: &[Located<'_>]) -> Result<Value, AllocError>
+fn related_sarif_locations(alloc: Global, spans: &[Located<'_>]) -> Result<Value, AllocError>
     ensures { IfOk result (λ value. view value
-        ≡ array (items_of (related_datas 1 (locations_of places.now)))) }
+        ≡ array (items_of (related_datas 1 (located_spans_of spans.now)))) }
 {
     let mut all = Vec::new(alloc);
-    for (index, it) in places.iter().enumerate() {
-        all.push(related_location(alloc, index + 1, it)?)?;
+    for (index, it) in spans.iter().enumerate() {
+        all.push(related_sarif_location(alloc, index + 1, it)?)?;
     }
     Ok(Value::from(all))
 }
 
 /// A location with a number, and with a message where it says something.
-fn related_location(alloc: Global, id: usize, it: &Located<'_>) -> Result<Value, AllocError>
-    ensures { IfOk result (λ value. view value ≡ related_data id (location_of it.now)) }
+fn related_sarif_location(alloc: Global, id: usize, it: &Located<'_>) -> Result<Value, AllocError>
+    ensures { IfOk result (λ value. view value ≡ related_data id (located_span_of it.now)) }
 {
-    let mut members = location(alloc, it)?;
+    let mut members = sarif_location(alloc, it)?;
     put(&mut members, alloc, "id", Value::from(id))?;
-    put_message(alloc, &mut members, it.place.text.as_str())?;
+    put_message(alloc, &mut members, it.span.text.as_str())?;
     Ok(Value::Object(members))
 }
 
@@ -200,12 +200,12 @@ fn put_message(
 }
 
 /// The members of a location: its file, and its region where its line counts from 1.
-fn location(alloc: Global, it: &Located<'_>) -> Result<Map<String, Value>, AllocError>
+fn sarif_location(alloc: Global, it: &Located<'_>) -> Result<Map<String, Value>, AllocError>
     ensures { IfOk result (λ members.
-        members_view members.entries ≡ location_members (location_of it.now)) }
+        members_view members.entries ≡ sarif_location_members (located_span_of it.now)) }
 {
     let mut physical = Map::new(alloc);
-    let file = file_value(alloc, it.place.file.as_str())?;
+    let file = file_value(alloc, it.span.file.as_str())?;
     put(&mut physical, alloc, "artifactLocation", file)?;
     put_region(alloc, &mut physical, it)?;
     let mut members = Map::new(alloc);
@@ -225,7 +225,7 @@ fn put_region(
     it: &Located<'_>,
 ) -> Result<(), AllocError>
     ensures { OnOk result (members_view members.new.entries
-        ≡ with_region (location_of it.now) (members_view members.old.entries)) }
+        ≡ with_region (located_span_of it.now) (members_view members.old.entries)) }
 {
     if it.start.line == 0 {
         return Ok(());
@@ -247,12 +247,12 @@ fn file_value(alloc: Global, path: &str) -> Result<Value, AllocError>
     Ok(Value::Object(members))
 }
 
-/// The region of a place.
+/// The region of a span.
 fn region(alloc: Global, it: &Located<'_>) -> Result<Value, AllocError>
-    ensures { IfOk result (λ value. view value ≡ region_of (location_of it.now)) }
+    ensures { IfOk result (λ value. view value ≡ region_of (located_span_of it.now)) }
 {
     let mut members = Map::new(alloc);
-    put_spot(alloc, &mut members, it.start, "startLine", "startColumn")?;
+    put_location(alloc, &mut members, it.start, "startLine", "startColumn")?;
     put_end(alloc, &mut members, it.end)?;
     Ok(Value::Object(members))
 }
@@ -261,30 +261,30 @@ fn region(alloc: Global, it: &Located<'_>) -> Result<Value, AllocError>
 fn put_end(
     alloc: Global,
     members: &mut Map<String, Value>,
-    end: Option<Spot>,
+    end: Option<Location>,
 ) -> Result<(), AllocError>
     ensures { OnOk result (members_view members.new.entries
         ≡ with_end end (members_view members.old.entries)) }
 {
     match end {
-        Some(end) => put_spot(alloc, members, end, "endLine", "endColumn"),
+        Some(end) => put_location(alloc, members, end, "endLine", "endColumn"),
         None => Ok(()),
     }
 }
 
 /// Puts a line into a region, and its column where there is one.
-fn put_spot(
+fn put_location(
     alloc: Global,
     members: &mut Map<String, Value>,
-    spot: Spot,
+    location: Location,
     line_name: &str,
     column_name: &str,
 ) -> Result<(), AllocError>
     ensures { OnOk result (members_view members.new.entries
-        ≡ with_spot line_name.now column_name.now spot (members_view members.old.entries)) }
+        ≡ with_location line_name.now column_name.now location (members_view members.old.entries)) }
 {
-    put(members, alloc, line_name, Value::from(spot.line))?;
-    match spot.column {
+    put(members, alloc, line_name, Value::from(location.line))?;
+    match location.column {
         Some(column) if column > 0 => put(members, alloc, column_name, Value::from(column)),
         _ => Ok(()),
     }

@@ -4,10 +4,10 @@
 ghost use Rattle.std.specs.Prelude.{◌≡◌, ◌++◌, IfOk, OnOk, option_map, string_bytes};
 ghost use Rattle.std.specs.List.{flat_map};
 ghost use Rattle.std.specs.Option.{option_copied};
-ghost use Rattle.ariadne_outputs.specs.Located.{location_of, locations_of};
+ghost use Rattle.ariadne_outputs.specs.Located.{located_span_of, located_spans_of};
 ghost use Rattle.ariadne_outputs.specs.Short.{code_part, column_part, head_row};
-ghost use Rattle.ariadne_outputs.specs.Short.{main_spot as spot_of_main, note_rows, place_row, row};
-ghost use Rattle.ariadne_outputs.specs.Short.{short_rows, spot_at};
+ghost use Rattle.ariadne_outputs.specs.Short.{main_location as location_of_main, note_rows, row, span_row};
+ghost use Rattle.ariadne_outputs.specs.Short.{location_at, short_rows};
 
 use crate::located::{Located, severity_word};
 use ariadne_parse::Diagnostic;
@@ -17,44 +17,44 @@ use std::alloc::{AllocError, Global};
 /// The word for what is said beside a diagnostic.
 const NOTE: &str = "note";
 
-/// A diagnostic in rows, each with its line feed: its message, then what its places say, its notes and
-/// its helps, each as a note. What has no place of its own stands at the diagnostic's.
+/// A diagnostic in rows, each with its line feed: its message, then what its spans say, its notes and
+/// its helps, each as a note. What has no span of its own stands at the diagnostic's.
 ///
 /// Columns count bytes. A row has a sign for each hidden character of its texts, also for line feeds. A
-/// diagnostic without a place begins with its kind. On `Err` there was no memory.
+/// diagnostic without a span begins with its kind. On `Err` there was no memory.
 pub fn short_text(
     alloc: Global,
-    told: &Diagnostic,
-    places: &[Located<'_>],
+    parsed: &Diagnostic,
+    spans: &[Located<'_>],
 ) -> Result<String, AllocError>
     ensures { IfOk result (λ text.
-        string_bytes text ≡ short_rows told.now (locations_of places.now)) }
+        string_bytes text ≡ short_rows parsed.now (located_spans_of spans.now)) }
 {
     let mut text = String::new(alloc);
-    let spot = main_spot(alloc, places.first())?;
-    push_head(alloc, &mut text, spot.as_str(), told)?;
-    push_places(alloc, &mut text, places)?;
-    push_notes(alloc, &mut text, spot.as_str(), told.notes.as_slice())?;
-    push_notes(alloc, &mut text, spot.as_str(), told.helps.as_slice())?;
+    let location = main_location(alloc, spans.first())?;
+    push_head(alloc, &mut text, location.as_str(), parsed)?;
+    push_spans(alloc, &mut text, spans)?;
+    push_notes(alloc, &mut text, location.as_str(), parsed.notes.as_slice())?;
+    push_notes(alloc, &mut text, location.as_str(), parsed.helps.as_slice())?;
     Ok(text)
 }
 
-/// Where a diagnostic's own place begins, if it has one.
-fn main_spot(alloc: Global, main: Option<&Located<'_>>) -> Result<String, AllocError>
+/// Where a diagnostic's own span begins, if it has one.
+fn main_location(alloc: Global, main: Option<&Located<'_>>) -> Result<String, AllocError>
     ensures { IfOk result (λ text. string_bytes text
-        ≡ spot_of_main (option_map location_of (option_copied main.entry))) }
+        ≡ location_of_main (option_map located_span_of (option_copied main.entry))) }
 {
     match main {
-        Some(main) => spot_text(alloc, main),
+        Some(main) => location_text(alloc, main),
         None => Ok(String::new(alloc)),
     }
 }
 
 /// Where the tool points, `FILE:LINE:COLUMN: `.
-fn spot_text(alloc: Global, it: &Located<'_>) -> Result<String, AllocError>
-    ensures { IfOk result (λ text. string_bytes text ≡ spot_at (location_of it.now)) }
+fn location_text(alloc: Global, it: &Located<'_>) -> Result<String, AllocError>
+    ensures { IfOk result (λ text. string_bytes text ≡ location_at (located_span_of it.now)) }
 {
-    let file = visible(alloc, it.place.file.as_str(), TextKind::OneRow)?;
+    let file = visible(alloc, it.span.file.as_str(), TextKind::OneRow)?;
     let line = it.caret.line;
     let column = column_text(alloc, it.caret.column)?;
     format!(in alloc; "{file}:{line}{column}: ")
@@ -74,20 +74,20 @@ fn column_text(alloc: Global, column: Option<usize>) -> Result<String, AllocErro
 fn push_head(
     alloc: Global,
     text: &mut String,
-    spot: &str,
-    told: &Diagnostic,
+    location: &str,
+    parsed: &Diagnostic,
 ) -> Result<(), AllocError>
     ensures { OnOk result (string_bytes text.new
-        ≡ string_bytes text.old ++ head_row spot.now told.now) }
+        ≡ string_bytes text.old ++ head_row location.now parsed.now) }
 {
-    let code = code_text(alloc, told.code.as_ref())?;
-    let word = severity_word(told.severity);
+    let code = code_text(alloc, parsed.code.as_ref())?;
+    let word = severity_word(parsed.severity);
     push_row(
         alloc,
         text,
-        spot,
+        location,
         word,
-        told.message.as_str(),
+        parsed.message.as_str(),
         code.as_str(),
     )
 }
@@ -105,57 +105,64 @@ fn code_text(alloc: Global, code: Option<&String>) -> Result<String, AllocError>
     }
 }
 
-/// Adds a row for each place that says something.
-fn push_places(alloc: Global, text: &mut String, places: &[Located<'_>]) -> Result<(), AllocError>
+/// Adds a row for each span that says something.
+fn push_spans(alloc: Global, text: &mut String, spans: &[Located<'_>]) -> Result<(), AllocError>
     ensures { OnOk result (string_bytes text.new ≡ string_bytes text.old
-        ++ flat_map (λ it. place_row (location_of it)) places.now) }
+        ++ flat_map (λ it. span_row (located_span_of it)) spans.now) }
 {
-    for it in places {
-        push_place(alloc, text, it)?;
+    for it in spans {
+        push_span(alloc, text, it)?;
     }
     Ok(())
 }
 
-/// Adds the row of a place, if that says something.
-fn push_place(alloc: Global, text: &mut String, it: &Located<'_>) -> Result<(), AllocError>
+/// Adds the row of a span, if that says something.
+fn push_span(alloc: Global, text: &mut String, it: &Located<'_>) -> Result<(), AllocError>
     ensures { OnOk result (string_bytes text.new
-        ≡ string_bytes text.old ++ place_row (location_of it.now)) }
+        ≡ string_bytes text.old ++ span_row (located_span_of it.now)) }
 {
-    if it.place.text.is_empty() {
+    if it.span.text.is_empty() {
         return Ok(());
     }
-    let spot = spot_text(alloc, it)?;
-    push_row(alloc, text, spot.as_str(), NOTE, it.place.text.as_str(), "")
+    let location = location_text(alloc, it)?;
+    push_row(
+        alloc,
+        text,
+        location.as_str(),
+        NOTE,
+        it.span.text.as_str(),
+        "",
+    )
 }
 
 /// Adds a row for each of these notes.
 fn push_notes(
     alloc: Global,
     text: &mut String,
-    spot: &str,
+    location: &str,
     notes: &[String],
 ) -> Result<(), AllocError>
     ensures { OnOk result (string_bytes text.new
-        ≡ string_bytes text.old ++ note_rows spot.now notes.now) }
+        ≡ string_bytes text.old ++ note_rows location.now notes.now) }
 {
     for note in notes {
-        push_row(alloc, text, spot, NOTE, note.as_str(), "")?;
+        push_row(alloc, text, location, NOTE, note.as_str(), "")?;
     }
     Ok(())
 }
 
-/// Adds a row that says this of a spot, with what stands behind it.
+/// Adds a row that says this of a location, with what stands behind it.
 fn push_row(
     alloc: Global,
     text: &mut String,
-    spot: &str,
+    location: &str,
     word: &str,
     said: &str,
     behind: &str,
 ) -> Result<(), AllocError>
     ensures { OnOk result (string_bytes text.new
-        ≡ string_bytes text.old ++ row spot.now word.now said.now behind.now) }
+        ≡ string_bytes text.old ++ row location.now word.now said.now behind.now) }
 {
     let said = visible(alloc, said, TextKind::OneRow)?;
-    text.push_str(format!(in alloc; "{spot}{word}: {said}{behind}\n")?.as_str())
+    text.push_str(format!(in alloc; "{location}{word}: {said}{behind}\n")?.as_str())
 }

@@ -2,38 +2,38 @@
 
 ghost use Rattle.std.specs.Prelude.{◌≡◌, ◌++◌, IfOk, OnOk, option_map, string_bytes};
 ghost use Rattle.std.specs.Option.{option_copied};
-ghost use Rattle.ariadne_outputs.specs.Located.{location_of, own_line, said_lines, whole_of};
+ghost use Rattle.ariadne_outputs.specs.Located.{located_span_of, own_line, said_lines, whole_of};
 
 use crate::located::Located;
 use ariadne_parse::Diagnostic;
 use std::alloc::{AllocError, Global};
 
-/// The message of a diagnostic, what its own place says, its notes and its helps, each in a line of its
+/// The message of a diagnostic, what its own span says, its notes and its helps, each in a line of its
 /// own, or more.
 pub(crate) fn whole_text(
     alloc: Global,
-    told: &Diagnostic,
+    parsed: &Diagnostic,
     main: Option<&Located<'_>>,
 ) -> Result<String, AllocError>
     ensures { IfOk result (λ text. string_bytes text
-        ≡ whole_of told.now (option_map location_of (option_copied main.entry))) }
+        ≡ whole_of parsed.now (option_map located_span_of (option_copied main.entry))) }
 {
-    let mut text = told.message.clone()?;
+    let mut text = parsed.message.clone()?;
     push_own(&mut text, main)?;
-    push_said(&mut text, "\nnote: ", told.notes.as_slice())?;
-    push_said(&mut text, "\nhelp: ", told.helps.as_slice())?;
+    push_said(&mut text, "\nnote: ", parsed.notes.as_slice())?;
+    push_said(&mut text, "\nhelp: ", parsed.helps.as_slice())?;
     Ok(text)
 }
 
-/// Adds what a diagnostic's own place says, if it says something.
+/// Adds what a diagnostic's own span says, if it says something.
 fn push_own(text: &mut String, main: Option<&Located<'_>>) -> Result<(), AllocError>
     ensures { OnOk result (string_bytes text.new
-        ≡ string_bytes text.old ++ own_line (option_map location_of (option_copied main.entry))) }
+        ≡ string_bytes text.old ++ own_line (option_map located_span_of (option_copied main.entry))) }
 {
     match main {
-        Some(main) if !main.place.text.is_empty() => {
+        Some(main) if !main.span.text.is_empty() => {
             text.push('\n')?;
-            text.push_str(main.place.text.as_str())
+            text.push_str(main.span.text.as_str())
         }
         _ => Ok(()),
     }

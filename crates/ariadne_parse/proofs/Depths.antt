@@ -8,7 +8,7 @@ use Rattle.std.proofs.lemmas.Option.{none-some, same_Some}
 use Rattle.serde_json.specs.Data.{Data, null, boolean, number, string, array, object, Members, no_members, member, depth, members_depth}
 use Rattle.serde_json.specs.Find.{get, get_member}
 use Rattle.ariadne_parse.specs.Members.{text_at}
-use Rattle.ariadne_parse.specs.ParsedLines.{handed_on, if_rustc, is_rustc, rustc_for, rustc_in}
+use Rattle.ariadne_parse.specs.ParsedDiagnostics.{handed_on, if_rustc, is_rustc, rustc_for, rustc_in}
 
 -- a member
 picked : (o : Ordering) (n : ℕ) (d : Data) (e : Option Data) (f : Data) → depth d ≤ n

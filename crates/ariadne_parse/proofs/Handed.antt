@@ -7,8 +7,8 @@ use Rattle.std.proofs.lemmas.Option.{none-some}
 use Rattle.serde_json.specs.Data.{Data}
 use Rattle.ariadne_parse.specs.Sent.{WasSent}
 use Rattle.ariadne_parse.specs.Members.{text_at}
-use Rattle.ariadne_parse.specs.ParsedLines.{drops_value, handed_in, is_report, rustc_in, tells_gcc, tells_value, AreTold}
-use Rattle.ariadne_parse.specs.ParsedLines.{IsHeldIfAny, IsToldOfValue, told_before, told_now, told_nothing, told_others}
+use Rattle.ariadne_parse.specs.ParsedDiagnostics.{drops_value, handed_in, is_report, rustc_in, tells_gcc, tells_value, AreParsed}
+use Rattle.ariadne_parse.specs.ParsedDiagnostics.{IsHeldIfAny, IsParsedOfValue, parsed_before, parsed_now, parsed_nothing, parsed_others}
 use Rattle.ariadne_parse.specs.declared.diagnostic.Diagnostic.{Diagnostic}
 use Rattle.ariadne_parse.specs.declared.sent.Sent.{Sent}
 use Rattle.ariadne_parse.specs.declared.telling.Answer.TheVariants.{Nothing, Dropped, Diagnostics}
@@ -38,34 +38,34 @@ module _ (format : Format) (d : Data) (first last : Sent) where
   same_sent (Some m) is none held = absurd (false≢true (sym none ∙ handed_tells format d m is))
 
   again_by : (o : Option Data) → handed_in format d ≡ o → IsSomeAnd o (WasSent first) → last ≡ first
-      → IsToldOfValue format d first last Dropped
+      → IsParsedOfValue format d first last Dropped
   again_by None is was same = absurd was
-  again_by (Some m) is was same = told_before m is was same
+  again_by (Some m) is was same = parsed_before m is was same
 
   -- a message that was handed on before
-  pub again : IsSomeAnd (handed_in format d) (WasSent first) → last ≡ first → IsToldOfValue format d first last Dropped
+  pub again : IsSomeAnd (handed_in format d) (WasSent first) → last ≡ first → IsParsedOfValue format d first last Dropped
   again was same = again_by (handed_in format d) refl was same
 
   -- diagnostics
   pub now : (all : Option (Vec Diagnostic Global)) (some : Vec Diagnostic Global) → all ≡ Some some
-      → is_some all ≡ tells_value format d → IfSome all (λ list. AreTold d list.items) → IsHeldIfAny (handed_in format d) first last
-      → IsToldOfValue format d first last (Diagnostics some)
-  now all some is told filled held =
-      told_now some (sym told ∙ ap is_some is)
-      (subst (λ (o : Option (Vec Diagnostic Global)). IfSome o (λ list. AreTold d list.items)) is filled) held
+      → is_some all ≡ tells_value format d → IfSome all (λ list. AreParsed d list.items) → IsHeldIfAny (handed_in format d) first last
+      → IsParsedOfValue format d first last (Diagnostics some)
+  now all some is parsed filled held =
+      parsed_now some (sym parsed ∙ ap is_some is)
+      (subst (λ (o : Option (Vec Diagnostic Global)). IfSome o (λ list. AreParsed d list.items)) is filled) held
 
   -- none
   pub others : (all : Option (Vec Diagnostic Global)) → all ≡ None → is_some all ≡ tells_value format d
-      → IsHeldIfAny (handed_in format d) first last → drops_value format d ≡ true → IsToldOfValue format d first last Dropped
-  others all is told held drops =
-      let none : tells_value format d ≡ false = sym told ∙ ap is_some is in
-      told_others none drops (same_sent (handed_in format d) refl none held)
+      → IsHeldIfAny (handed_in format d) first last → drops_value format d ≡ true → IsParsedOfValue format d first last Dropped
+  others all is parsed held drops =
+      let none : tells_value format d ≡ false = sym parsed ∙ ap is_some is in
+      parsed_others none drops (same_sent (handed_in format d) refl none held)
 
   pub nothing : (all : Option (Vec Diagnostic Global)) → all ≡ None → is_some all ≡ tells_value format d
-      → IsHeldIfAny (handed_in format d) first last → drops_value format d ≡ false → IsToldOfValue format d first last Nothing
-  nothing all is told held kept =
-      let none : tells_value format d ≡ false = sym told ∙ ap is_some is in
-      told_nothing none kept (same_sent (handed_in format d) refl none held)
+      → IsHeldIfAny (handed_in format d) first last → drops_value format d ≡ false → IsParsedOfValue format d first last Nothing
+  nothing all is parsed held kept =
+      let none : tells_value format d ≡ false = sym parsed ∙ ap is_some is in
+      parsed_nothing none kept (same_sent (handed_in format d) refl none held)
 
 -- what cargo writes for other programs
 pub both : (a b x y : Bool) → x ≡ a → y ≡ b → x ≡ true → y ≡ true → (a && b) ≡ true

@@ -7,37 +7,37 @@ use Rattle.std.proofs.lemmas.Option.{slice_get_within}
 use Rattle.ariadne_parse.specs.Columns.{begins_behind, line_begins, line_start}
 
 -- a line begins behind a line feed
-begins_at : (t : List ℕ) (place c : ℕ) → place < length t → c ≡ get_or t place c
-    → begins_behind place (drop place t)
-    ≡ cond (eqb c 10) ((place + 1) ∷ begins_behind (place + 1) (drop (place + 1) t)) (begins_behind (place + 1) (drop (place + 1) t))
+begins_at : (t : List ℕ) (span c : ℕ) → span < length t → c ≡ get_or t span c
+    → begins_behind span (drop span t)
+    ≡ cond (eqb c 10) ((span + 1) ∷ begins_behind (span + 1) (drop (span + 1) t)) (begins_behind (span + 1) (drop (span + 1) t))
 unfolding begins_behind
-begins_at t place c lt is =
-    at_drop_more (begins_behind place) t place c lt
-    ∙ ap (λ x. begins_behind place (x ∷ drop (place + 1) t)) (sym is)
+begins_at t span c lt is =
+    at_drop_more (begins_behind span) t span c lt
+    ∙ ap (λ x. begins_behind span (x ∷ drop (span + 1) t)) (sym is)
 
-module _ (t : List ℕ) (place c : ℕ) (lt : place < length t) (is : c ≡ get_or t place c) (xs : List ℕ)
-    (so_far : xs ++ begins_behind place (drop place t) ≡ line_begins t) where
+module _ (t : List ℕ) (span c : ℕ) (lt : span < length t) (is : c ≡ get_or t span c) (xs : List ℕ)
+    (so_far : xs ++ begins_behind span (drop span t) ≡ line_begins t) where
   -- so one is pushed there
-  pub begins_pushed : (pushed : List ℕ) → c ≡ 10 → pushed ≡ xs ++ (place + 1) ∷ []
-      → pushed ++ begins_behind (place + 1) (drop (place + 1) t) ≡ line_begins t
+  pub begins_pushed : (pushed : List ℕ) → c ≡ 10 → pushed ≡ xs ++ (span + 1) ∷ []
+      → pushed ++ begins_behind (span + 1) (drop (span + 1) t) ≡ line_begins t
   begins_pushed pushed feed push =
-      let rest = begins_behind (place + 1) (drop (place + 1) t) in
-      let at = begins_at t place c lt is in
-      let moved = append_assoc xs ((place + 1) ∷ []) rest in
+      let rest = begins_behind (span + 1) (drop (span + 1) t) in
+      let at = begins_at t span c lt is in
+      let moved = append_assoc xs ((span + 1) ∷ []) rest in
       rw push (moved ∙ ap (λ behind. xs ++ behind) (sym (at ∙ rw feed refl)) ∙ so_far)
 
   -- and none elsewhere
-  pub begins_kept : (c ≡ 10 → ⊥) → xs ++ begins_behind (place + 1) (drop (place + 1) t) ≡ line_begins t
+  pub begins_kept : (c ≡ 10 → ⊥) → xs ++ begins_behind (span + 1) (drop (span + 1) t) ≡ line_begins t
   begins_kept other =
-      let at = begins_at t place c lt is in
+      let at = begins_at t span c lt is in
       ap (λ behind. xs ++ behind) (sym (at ∙ rw (ne_eqb c 10 other) refl)) ∙ so_far
 
 -- none does at the end
-pub begins_whole : (t : List ℕ) (place : ℕ) (xs : List ℕ) → length t ≤ place
-    → xs ++ begins_behind place (drop place t) ≡ line_begins t → xs ≡ line_begins t
+pub begins_whole : (t : List ℕ) (span : ℕ) (xs : List ℕ) → length t ≤ span
+    → xs ++ begins_behind span (drop span t) ≡ line_begins t → xs ≡ line_begins t
 unfolding begins_behind
-begins_whole t place xs end so_far =
-    sym (append-nil xs) ∙ ap (λ behind. xs ++ behind) (sym (at_drop_all (begins_behind place) t place end)) ∙ so_far
+begins_whole t span xs end so_far =
+    sym (append-nil xs) ∙ ap (λ behind. xs ++ behind) (sym (at_drop_all (begins_behind span) t span end)) ∙ so_far
 
 -- what is found in a list in front of which one stands, or none does
 begins_found : (b : Bool) (n : ℕ) (xs : List ℕ) (bound i x : ℕ) → n ≤ bound

@@ -8,22 +8,22 @@ use Rattle.ariadne_parse.specs.Columns.{columns_before, columns_of, passed}
 use Rattle.ariadne_parse.specs.declared.unit.Unit.{Unit}
 
 -- a character is passed if it is no line feed, and ends in front of the limit
-pub passed_at : (unit : Unit) (limit at : ℕ) (t : List ℕ) (place c width : ℕ)
-    → place < length t → c ≡ get_or t place c → width ≡ columns_of unit at c
-    → passed unit limit at (drop place t)
+pub passed_at : (unit : Unit) (limit at : ℕ) (t : List ℕ) (span c width : ℕ)
+    → span < length t → c ≡ get_or t span c → width ≡ columns_of unit at c
+    → passed unit limit at (drop span t)
     ≡ cond (not (eqb c 10) && nat_le (at + width) limit)
-    (suc (passed unit limit (at + width) (drop (place + 1) t))) 0
+    (suc (passed unit limit (at + width) (drop (span + 1) t))) 0
 unfolding passed
-passed_at unit limit at t place c width lt is wide =
-    at_drop_more (passed unit limit at) t place c lt
-    ∙ ap (λ x. passed unit limit at (x ∷ drop (place + 1) t)) (sym is)
-    ∙ ap (λ n. cond (not (eqb c 10) && nat_le (at + n) limit) (suc (passed unit limit (at + n) (drop (place + 1) t))) 0) (sym wide)
+passed_at unit limit at t span c width lt is wide =
+    at_drop_more (passed unit limit at) t span c lt
+    ∙ ap (λ x. passed unit limit at (x ∷ drop (span + 1) t)) (sym is)
+    ∙ ap (λ n. cond (not (eqb c 10) && nat_le (at + n) limit) (suc (passed unit limit (at + n) (drop (span + 1) t))) 0) (sym wide)
 
 -- none is passed at the end
-pub passed_end : (unit : Unit) (limit at : ℕ) (t : List ℕ) (place : ℕ) → length t ≤ place
-    → passed unit limit at (drop place t) ≡ 0
+pub passed_end : (unit : Unit) (limit at : ℕ) (t : List ℕ) (span : ℕ) → length t ≤ span
+    → passed unit limit at (drop span t) ≡ 0
 unfolding passed
-passed_end unit limit at t place end = at_drop_all (passed unit limit at) t place end
+passed_end unit limit at t span end = at_drop_all (passed unit limit at) t span end
 
 -- columns go up
 before_bound : (unit : Unit) (at k : ℕ) (line : List ℕ) → at ≤ columns_before unit at k line

@@ -27,7 +27,7 @@ use Rattle.std.specs.Str.Pattern.{FindsTextPrefix, FindsTextSuffix, RFindsChar, 
 use Rattle.ariadne_parse.specs.Heads.{colons_from, first, read_at}
 use Rattle.ariadne_parse.specs.Sgr.{is_parameter}
 use Rattle.ariadne_parse.specs.TextPieces.{behind, behind_text, digits_in, in_front_of, in_front_of_text, number_in, split_once}
-use Rattle.ariadne_parse.specs.ToldLines.{IsCutAtColon}
+use Rattle.ariadne_parse.specs.ParsedLines.{IsCutAtColon}
 
 -- ---- slices
 
@@ -207,7 +207,7 @@ no_colon (c ∷ text) at e = elim (cases_Bool (eqb c 58)) [
   | inr other ↦ let more = rw other at e in rw other (no_colon text (at + 1) (omega (arith, more)))
 ]
 
--- the place of one that parts the rest of a line
+-- the span of one that parts the rest of a line
 pub record IsSeam (line rest : List ℕ) (at : ℕ) : Type 0 where
   pub within : at < length line
   pub colon : get_or line at 0 ≡ 58

@@ -12,7 +12,7 @@ use Rattle.ariadne_parse.specs.GccFixes.{change_of, changes_of}
 use Rattle.ariadne_parse.specs.Members.{all_items, any_item, has_none}
 use Rattle.ariadne_parse.specs.Proposed.{changes_by, Filed}
 use Rattle.ariadne_parse.specs.Reports.{color_mixed, has_primary, is_primary, texts_in}
-use Rattle.ariadne_parse.specs.ParsedLines.{is_gcc, is_gcc_list}
+use Rattle.ariadne_parse.specs.ParsedDiagnostics.{is_gcc, is_gcc_list}
 
 -- items pass where their values do
 pub all_view : (test : Data → Bool) (values : List Value)

@@ -66,7 +66,7 @@ first_line t = strip_last 13 (take (prefix_len (λ c. not (c == 10)) t) t)
 unfoldable pub line_of : List ℕ → ℕ → Option (List ℕ)
 line_of t line = option_map (λ start. first_line (drop start t)) (line_start t line)
 
--- ---- spots
+-- ---- locations
 
 -- the number of the line that an offset stands in: how many lines begin up to there
 abbrev pub line_at : List ℕ → ℕ → ℕ

@@ -1,4 +1,4 @@
--- Lines in front of a diagnostic that say how the tool came to its place:
+-- Lines in front of a diagnostic that say how the tool came to its span:
 --     In file included from FILE:LINE,     the first of gcc's, and each of clang's;
 --                      from FILE:LINE:     gcc's further ones; they end in a comma or a colon;
 --     inlined from 'NAME' at FILE:LINE:COLUMN:
@@ -7,18 +7,18 @@ use Rattle.std.specs.Prelude.{ℕ, Bool, false, ◌&&◌, ◌||◌, if◌then◌
 use Rattle.std.specs.Prelude.{Option, Some, None, is_some, option_map, option_and_then}
 use Rattle.std.specs.Option.{option_or, unwrap_or}
 use Rattle.std.specs.Path.{rsplit_once}
-use Rattle.ariadne_parse.specs.Heads.{at_colons, place_in, spot_at}
+use Rattle.ariadne_parse.specs.Heads.{at_colons, span_in, location_at}
 use Rattle.ariadne_parse.specs.TextPieces.{begins_with, behind, behind_text, in_front_of, in_front_of_text}
 use Rattle.ariadne_parse.specs.TextPieces.{is_flush, past_blanks, split_once, whole_number}
-use Rattle.ariadne_parse.specs.declared.diagnostic.Spot.{Spot}
+use Rattle.ariadne_parse.specs.declared.diagnostic.Location.{Location}
 
--- what such a line tells: a place, and what a label there says
+-- what such a line tells: a span, and what a label there says
 pub record Front : Type 0 where
   pub file : List ℕ
-  pub start : Spot
+  pub start : Location
   pub text : List ℕ
 
--- ---- a place at the end of a text
+-- ---- a span at the end of a text
 
 -- a line's number behind the last colon of a text, and what stands in front of it
 unfoldable pub number_at_end : List ℕ → Option (List ℕ × ℕ)
@@ -27,15 +27,15 @@ number_at_end text =
     (rsplit_once 58 text)
 
 -- FILE:LINE, where another number stands at the end of the file; FILE:LINE:COLUMN then
-abbrev pub place_by : List ℕ × ℕ → Option (List ℕ × ℕ) → List ℕ × Spot
-place_by last None = (last.0, record { line = last.1; column = None })
-place_by last (Some line) = (line.0, spot_at line.1 last.1)
+abbrev pub span_by : List ℕ × ℕ → Option (List ℕ × ℕ) → List ℕ × Location
+span_by last None = (last.0, record { line = last.1; column = None })
+span_by last (Some line) = (line.0, location_at line.1 last.1)
 
 -- FILE:LINE or FILE:LINE:COLUMN: the name is not empty, and begins with no blank
-unfoldable pub place_at_end : List ℕ → Option (List ℕ × Spot)
-place_at_end text =
-    option_and_then (λ place. if is_flush place.0 then Some place else None)
-    (option_map (λ last. place_by last (number_at_end last.0)) (number_at_end text))
+unfoldable pub span_at_end : List ℕ → Option (List ℕ × Location)
+span_at_end text =
+    option_and_then (λ span. if is_flush span.0 then Some span else None)
+    (option_map (λ last. span_by last (number_at_end last.0)) (number_at_end text))
 
 -- what stands in front of the comma or the colon at the end
 unfoldable pub in_front_of_end : List ℕ → Option (List ℕ)
@@ -55,15 +55,15 @@ behind_included text =
 unfoldable pub include_in : List ℕ → Option Front
 include_in line =
     option_map
-    (λ place. record { file = place.0; start = place.1; text = codes "included here" })
-    (option_and_then place_at_end
+    (λ span. record { file = span.0; start = span.1; text = codes "included here" })
+    (option_and_then span_at_end
     (option_and_then in_front_of_end (behind_included (past_blanks line))))
 
 -- ---- calls in place of which gcc put what they call
 
--- inlined from 'NAME', and the place behind it
-unfoldable pub said_and_place : List ℕ → Option (List ℕ × List ℕ)
-said_and_place text =
+-- inlined from 'NAME', and the span behind it
+unfoldable pub said_and_span : List ℕ → Option (List ℕ × List ℕ)
+said_and_span text =
     option_and_then
     (λ parts. option_map (λ said. (said, parts.1)) (in_front_of_text (codes " at") parts.0))
     (rsplit_once 32 text)
@@ -74,9 +74,9 @@ inlined_in line =
     then
     option_and_then
     (λ parts.
-    option_map (λ place. record { file = place.0; start = place.1; text = parts.0 })
-    (place_at_end parts.1))
-    (option_and_then said_and_place (in_front_of_end (past_blanks line)))
+    option_map (λ span. record { file = span.0; start = span.1; text = parts.0 })
+    (span_at_end parts.1))
+    (option_and_then said_and_span (in_front_of_end (past_blanks line)))
     else None
 
 -- ---- templates and constants that gcc works out
@@ -87,18 +87,18 @@ says_how text =
     begins_with (codes "required ") text || begins_with (codes "recursively required ") text
     || begins_with (codes "in ") text || begins_with (codes "instantiated from ") text
 
--- a place, a colon and three blanks stand behind the name of a file
+-- a span, a colon and three blanks stand behind the name of a file
 unfoldable pub context_behind : List ℕ → List ℕ → Option Front
 context_behind file text =
     option_and_then
-    (λ place.
+    (λ span.
     option_and_then
     (λ said.
     if says_how said && is_flush file
-    then Some (record { file = file; start = place.0; text = said })
+    then Some (record { file = file; start = span.0; text = said })
     else None)
-    (behind_text (codes ":   ") place.2))
-    (place_in text)
+    (behind_text (codes ":   ") span.2))
+    (span_in text)
 
 -- at the first colon at which a line tells that
 unfoldable pub context_in : List ℕ → Option Front
@@ -109,7 +109,7 @@ context_in line = at_colons context_behind line
 unfoldable pub front_in : List ℕ → Option Front
 front_in line = option_or (include_in line) (option_or (inlined_in line) (context_in line))
 
--- ---- lines that name what the tool was in, and no place
+-- ---- lines that name what the tool was in, and no span
 
 -- words for a function that the tool was in
 unfoldable pub begins_as_function : List ℕ → Bool

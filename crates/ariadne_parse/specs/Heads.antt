@@ -1,6 +1,6 @@
 -- Lines of text that tell a diagnostic, FILE:LINE:COLUMN:RANGES: KIND: MESSAGE [CODE]. The column, the
 -- ranges, the kind and the code may be left out. Behind the column an end may stand, as :LINE:COLUMN or
--- -COLUMN, which is the place of its last character. The line and the column may stand in parentheses,
+-- -COLUMN, which is the span of its last character. The line and the column may stand in parentheses,
 -- as FILE(LINE,COLUMN): KIND: MESSAGE. Characters stand as their numbers, which TextPieces.antt names.
 use Rattle.std.specs.Prelude.{ℕ, zero, suc, ◌+◌, ◌==◌, nat_lt, Bool, false, not, ◌&&◌, ◌||◌}
 use Rattle.std.specs.Prelude.{if◌then◌else◌, List, [], ◌∷◌, length, take, drop, codes}
@@ -14,97 +14,97 @@ use Rattle.ariadne_parse.specs.TextPieces.{behind, begins_with, closes_with, in_
 use Rattle.ariadne_parse.specs.TextPieces.{split_once, whole_number}
 use Rattle.ariadne_parse.specs.declared.diagnostic.Severity.{Severity}
 use Rattle.ariadne_parse.specs.declared.diagnostic.Severity.TheVariants.{Error, Warning}
-use Rattle.ariadne_parse.specs.declared.diagnostic.Spot.{Spot}
+use Rattle.ariadne_parse.specs.declared.diagnostic.Location.{Location}
 
 -- what a line tells; its columns count as the tool's do
 pub record Head : Type 0 where
   pub file : List ℕ
-  pub start : Spot
+  pub start : Location
   -- where its last character stands
-  pub end : Option Spot
+  pub end : Option Location
   pub ranges : List ℕ
   pub kind : Kind
   pub message : List ℕ
 
--- ---- places
+-- ---- spans
 
 -- a colon and a number
 unfoldable pub column_in : List ℕ → Option (ℕ × List ℕ)
 column_in text = option_and_then number_in (behind 58 text)
 
--- a spot
-abbrev pub spot_at : ℕ → ℕ → Spot
-spot_at line column = record { line = line; column = Some column }
+-- a location
+abbrev pub location_at : ℕ → ℕ → Location
+location_at line column = record { line = line; column = Some column }
 
 -- LINE:COLUMN, and what stands behind it
-unfoldable pub spot_in : List ℕ → Option (Spot × List ℕ)
-spot_in text =
-    option_and_then (λ line. option_map (λ column. (spot_at line.0 column.0, column.1)) (column_in line.1))
+unfoldable pub location_in : List ℕ → Option (Location × List ℕ)
+location_in text =
+    option_and_then (λ line. option_map (λ column. (location_at line.0 column.0, column.1)) (column_in line.1))
     (number_in text)
 
 -- that behind a character
-unfoldable pub spot_behind : ℕ → List ℕ → Option (Spot × List ℕ)
-spot_behind mark text = option_and_then spot_in (behind mark text)
+unfoldable pub location_behind : ℕ → List ℕ → Option (Location × List ℕ)
+location_behind mark text = option_and_then location_in (behind mark text)
 
 -- -COLUMN, on the same line
-unfoldable pub end_on_line : ℕ → List ℕ → Option (Spot × List ℕ)
+unfoldable pub end_on_line : ℕ → List ℕ → Option (Location × List ℕ)
 end_on_line line text =
-    option_map (λ column. (spot_at line column.0, column.1)) (option_and_then number_in (behind 45 text))
+    option_map (λ column. (location_at line column.0, column.1)) (option_and_then number_in (behind 45 text))
 
--- an end behind a place of a line, and what stands behind it
-unfoldable pub end_in : ℕ → List ℕ → Option (Spot × List ℕ)
-end_in line text = option_or (spot_behind 58 text) (end_on_line line text)
+-- an end behind a span of a line, and what stands behind it
+unfoldable pub end_in : ℕ → List ℕ → Option (Location × List ℕ)
+end_in line text = option_or (location_behind 58 text) (end_on_line line text)
 
 -- a line alone; or a line and a column, and an end if there is one
-abbrev pub place_with : ℕ × List ℕ → Option (ℕ × List ℕ) → Spot × Option Spot × List ℕ
-place_with line None = (record { line = line.0; column = None }, None, line.1)
-place_with line (Some column) = (
-  spot_at line.0 column.0,
+abbrev pub span_with : ℕ × List ℕ → Option (ℕ × List ℕ) → Location × Option Location × List ℕ
+span_with line None = (record { line = line.0; column = None }, None, line.1)
+span_with line (Some column) = (
+  location_at line.0 column.0,
   option_map (λ end. end.0) (end_in line.0 column.1),
   unwrap_or (option_map (λ end. end.1) (end_in line.0 column.1)) column.1,
 )
 
 -- LINE, LINE:COLUMN or that with an end, and what stands behind it
-unfoldable pub place_in : List ℕ → Option (Spot × Option Spot × List ℕ)
-place_in text = option_map (λ line. place_with line (column_in line.1)) (number_in text)
+unfoldable pub span_in : List ℕ → Option (Location × Option Location × List ℕ)
+span_in text = option_map (λ line. span_with line (column_in line.1)) (number_in text)
 
--- a spot in parentheses: LINE or LINE,COLUMN
-abbrev pub spot_by : Option ℕ → Option ℕ → Option Spot
-spot_by None column = None
-spot_by (Some line) None = None
-spot_by (Some line) (Some column) = Some (spot_at line column)
+-- a location in parentheses: LINE or LINE,COLUMN
+abbrev pub location_by : Option ℕ → Option ℕ → Option Location
+location_by None column = None
+location_by (Some line) None = None
+location_by (Some line) (Some column) = Some (location_at line column)
 
-unfoldable pub spot_inside : List ℕ → Option Spot
-spot_inside text =
+unfoldable pub location_inside : List ℕ → Option Location
+location_inside text =
     option_or
-    (option_and_then (λ parts. spot_by (whole_number parts.0) (whole_number parts.1)) (split_once 44 text))
+    (option_and_then (λ parts. location_by (whole_number parts.0) (whole_number parts.1)) (split_once 44 text))
     (option_map (λ line. record { line = line; column = None }) (whole_number text))
 
 -- FILE(LINE,COLUMN) or FILE(LINE)
-unfoldable pub place_in_parens : List ℕ → Option (List ℕ × Spot)
-place_in_parens text =
-    option_and_then (λ parts. option_map (λ spot. (parts.0, spot)) (spot_inside parts.1))
+unfoldable pub span_in_parens : List ℕ → Option (List ℕ × Location)
+span_in_parens text =
+    option_and_then (λ parts. option_map (λ location. (parts.0, location)) (location_inside parts.1))
     (option_and_then (rsplit_once 40) (in_front_of 41 text))
 
 -- ---- ranges, as clang writes them: {LINE:COLUMN-LINE:COLUMN}, and a colon behind the last
 
 -- a range, and what stands behind it
-unfoldable pub range_in : List ℕ → Option (Spot × Spot × List ℕ)
+unfoldable pub range_in : List ℕ → Option (Location × Location × List ℕ)
 range_in text =
     option_and_then
     (λ start.
     option_and_then
     (λ end. option_map (λ rest. (start.0, end.0, rest)) (behind 125 end.1))
-    (spot_behind 45 start.1))
-    (spot_behind 123 text)
+    (location_behind 45 start.1))
+    (location_behind 123 text)
 
 -- a range in front of those behind it
-abbrev pub range_onto : (List ℕ → List (Spot × Spot)) → Option (Spot × Spot × List ℕ) → List (Spot × Spot)
+abbrev pub range_onto : (List ℕ → List (Location × Location)) → Option (Location × Location × List ℕ) → List (Location × Location)
 range_onto more None = []
 range_onto more (Some range) = (range.0, range.1) ∷ more range.2
 
 -- the ranges that a text begins with, n at most
-unfoldable pub ranges_in : ℕ → List ℕ → List (Spot × Spot)
+unfoldable pub ranges_in : ℕ → List ℕ → List (Location × Location)
 ranges_in zero text = []
 ranges_in (suc n) text = range_onto (ranges_in n) (range_in text)
 
@@ -129,15 +129,15 @@ said_in text =
     option_and_then (λ said. if is_flush said then Some said else None)
     (behind 32 (behind_ranges text))
 
--- a spot stands in front of another
-abbrev pub is_before : Spot → Spot → Bool
+-- a location stands in front of another
+abbrev pub is_before : Location → Location → Bool
 is_before a b =
     nat_lt a.line b.line
     || a.line == b.line && nat_lt (unwrap_or a.column 0) (unwrap_or b.column 0)
 
--- a spot stands in a range, which ends in front of its second spot
-abbrev pub is_among : Spot → Spot × Spot → Bool
-is_among spot range = not (is_before spot range.0) && is_before spot range.1
+-- a location stands in a range, which ends in front of its second location
+abbrev pub is_among : Location → Location × Location → Bool
+is_among location range = not (is_before location range.0) && is_before location range.1
 
 -- ---- codes at the end of a message
 
@@ -189,7 +189,7 @@ severity_by_code None = Error
 severity_by_code (Some code) = if begins_with (codes "Warning") code then Warning else Error
 
 -- the kind where none is named: there is one where there is a column, and the file is sure
-unfoldable pub unnamed_kind_in : List ℕ → Spot → List ℕ → Option (Kind × List ℕ)
+unfoldable pub unnamed_kind_in : List ℕ → Location → List ℕ → Option (Kind × List ℕ)
 unnamed_kind_in file start said =
     if is_sure_file file && is_some start.column
     then Some (
@@ -224,8 +224,8 @@ is_plain kind = not (is_some kind.name) && not (is_some kind.code)
 abbrev pub going_on : Kind → List ℕ → Kind
 going_on kind words = record kind { goes_on = is_plain kind && begins_with (codes "  ") words }
 
--- the kind of what is said of a place, and the words behind it
-unfoldable pub kind_of_said : List ℕ → Spot → List ℕ → Option (Kind × List ℕ)
+-- the kind of what is said of a span, and the words behind it
+unfoldable pub kind_of_said : List ℕ → Location → List ℕ → Option (Kind × List ℕ)
 kind_of_said file start said =
     option_or
     (option_map (λ found. (going_on found.0 found.1, found.1)) (named_kind_in file said))
@@ -243,20 +243,20 @@ abbrev pub message_of : List ℕ → Kind → List ℕ → List ℕ
 message_of file kind words = message_kept file kind (message_with kind words)
 
 -- it may be empty behind a known word alone, as in clang's `error: ` of a pragma that says nothing
-abbrev pub is_told : Kind → List ℕ → Bool
-is_told kind message = nat_lt 0 (length message) || is_plain kind
+abbrev pub is_parsed : Kind → List ℕ → Bool
+is_parsed kind message = nat_lt 0 (length message) || is_plain kind
 
 -- ---- heads
 
--- a message of a kind at a place: it is not empty but behind a known word, and the file's name is not empty and
+-- a message of a kind at a span: it is not empty but behind a known word, and the file's name is not empty and
 -- begins with no blank
-unfoldable pub head_of : List ℕ → Spot × Option Spot → List ℕ → Kind × List ℕ → Option Head
-head_of file place ranges said =
-    if is_told said.0 (message_of file said.0 said.1) && is_flush file
+unfoldable pub head_of : List ℕ → Location × Option Location → List ℕ → Kind × List ℕ → Option Head
+head_of file span ranges said =
+    if is_parsed said.0 (message_of file said.0 said.1) && is_flush file
     then Some (record {
       file = file;
-      start = place.0;
-      end = place.1;
+      start = span.0;
+      end = span.1;
       ranges = ranges;
       kind = kind_with_code said.0 said.1;
       message = message_of file said.0 said.1;
@@ -264,32 +264,32 @@ head_of file place ranges said =
     else None
 
 -- of what is said
-unfoldable pub head_with : List ℕ → Spot × Option Spot → List ℕ → List ℕ → Option Head
-head_with file place ranges said =
-    option_and_then (head_of file place ranges) (kind_of_said file place.0 said)
+unfoldable pub head_with : List ℕ → Location × Option Location → List ℕ → List ℕ → Option Head
+head_with file span ranges said =
+    option_and_then (head_of file span ranges) (kind_of_said file span.0 said)
 
--- a place, a colon, ranges and what is said stand behind the name of a file and a colon
-unfoldable pub head_behind_place : List ℕ → List ℕ → Option Head
-head_behind_place file text =
+-- a span, a colon, ranges and what is said stand behind the name of a file and a colon
+unfoldable pub head_behind_span : List ℕ → List ℕ → Option Head
+head_behind_span file text =
     option_and_then
-    (λ place.
+    (λ span.
     option_and_then
-    (λ ranges. option_and_then (head_with file (place.0, place.1) ranges) (said_in ranges))
-    (behind 58 place.2))
-    (place_in text)
+    (λ ranges. option_and_then (head_with file (span.0, span.1) ranges) (said_in ranges))
+    (behind 58 span.2))
+    (span_in text)
 
--- a file and a place in parentheses stand in front of a colon, and what is said behind it
+-- a file and a span in parentheses stand in front of a colon, and what is said behind it
 unfoldable pub head_behind_parens : List ℕ → List ℕ → Option Head
 head_behind_parens front text =
     option_and_then
-    (λ place. option_and_then (head_with place.0 (place.1, None) text) (said_in text))
-    (place_in_parens front)
+    (λ span. option_and_then (head_with span.0 (span.1, None) text) (said_in text))
+    (span_in_parens front)
 
 -- either of these, in front of a colon and behind it
 unfoldable pub head_behind : List ℕ → List ℕ → Option Head
-head_behind front text = option_or (head_behind_place front text) (head_behind_parens front text)
+head_behind front text = option_or (head_behind_span front text) (head_behind_parens front text)
 
--- the places of the colons in a text that begins at a place
+-- the spans of the colons in a text that begins at a span
 abbrev pub colons_from : ℕ → List ℕ → List ℕ
 colons_from at [] = []
 colons_from at (c ∷ text) =
@@ -300,7 +300,7 @@ abbrev pub first : {T : Type 0} → List T → Option T
 first [] = None
 first (x ∷ xs) = Some x
 
--- what is read at a place of a line of the name in front of it and of what stands behind it
+-- what is read at a span of a line of the name in front of it and of what stands behind it
 abbrev pub read_at : {T : Type 0} → (List ℕ → List ℕ → Option T) → List ℕ → ℕ → Option T
 read_at reads line at = reads (take at line) (drop (at + 1) line)
 

@@ -17,7 +17,7 @@ use Rattle.ariadne_parse.specs.Severities.{is_named, is_own_name, severity_of}
 use Rattle.ariadne_parse.specs.declared.diagnostic.Severity.{Severity}
 use Rattle.ariadne_parse.specs.declared.diagnostic.Severity.TheVariants.{Error, Warning, Note}
 
--- what the place of a kind tells
+-- what the span of a kind tells
 pub record Kind : Type 0 where
   pub severity : Severity
   -- its word, where that says more than the severity

@@ -1,10 +1,10 @@
 pub mod Arrows
-pub mod ArrowsTold
+pub mod ArrowsParsed
 pub mod Columns
 pub mod FixRows
 pub mod Fixes
 pub mod Fronts
-pub mod FrontsTold
+pub mod FrontsParsed
 pub mod Gcc
 pub mod GccFixes
 pub mod Heads
@@ -12,7 +12,7 @@ pub mod Kinds
 pub mod Members
 pub mod Noted
 pub mod TextPieces
-pub mod Places
+pub mod Spans
 pub mod Proposed
 pub mod Read
 pub mod Reports
@@ -22,5 +22,5 @@ pub mod Severities
 pub mod Sgr
 pub mod Suggested
 pub mod Tallies
+pub mod ParsedDiagnostics
 pub mod ParsedLines
-pub mod ToldLines

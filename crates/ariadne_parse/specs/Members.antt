@@ -1,4 +1,4 @@
--- What the members of a value become that a tool writes for one diagnostic: its texts, its numbers and its places.
+-- What the members of a value become that a tool writes for one diagnostic: its texts, its numbers and its spans.
 -- The forms are those of rustc, of gcc and of reports.
 use Rattle.std.specs.Prelude.{ℕ, ◌==◌, Bool, true, false, ◌&&◌, ◌||◌, List, [], ◌++◌, codes}
 use Rattle.std.specs.Prelude.{Option, Some, None, option_and_then, option_map}
@@ -8,11 +8,11 @@ use Rattle.serde_json.specs.Data.{Data, Items, no_items, item}
 use Rattle.serde_json.specs.Find.{as_array, as_bool, as_number, as_str, as_u64, get}
 use Rattle.ariadne_parse.specs.TextPieces.{begins_with}
 use Rattle.ariadne_parse.specs.Severities.{severity_of}
-use Rattle.ariadne_parse.specs.Places.{place_of, Seen}
+use Rattle.ariadne_parse.specs.Spans.{span_of, Seen}
 use Rattle.ariadne_parse.specs.declared.unit.Unit.TheVariants.{Byte}
 use Rattle.ariadne_parse.specs.declared.diagnostic.End.{End}
 use Rattle.ariadne_parse.specs.declared.diagnostic.End.TheVariants.{Before, Behind, OfWord}
-use Rattle.ariadne_parse.specs.declared.diagnostic.Spot.{Spot}
+use Rattle.ariadne_parse.specs.declared.diagnostic.Location.{Location}
 use Rattle.ariadne_parse.specs.declared.diagnostic.Severity.{Severity}
 use Rattle.ariadne_parse.specs.declared.diagnostic.Severity.TheVariants.{Error, Warning, Note}
 
@@ -97,65 +97,65 @@ is_same_severity _ _ = false
 
 -- ---- rustc
 
--- a spot whose line and column are members
-abbrev pub spot_at : List ℕ → List ℕ → Data → Option Spot
-spot_at line column d = option_map (λ l. record { line = l; column = number_at column d }) (number_at line d)
+-- a location whose line and column are members
+abbrev pub location_at : List ℕ → List ℕ → Data → Option Location
+location_at line column d = option_map (λ l. record { line = l; column = number_at column d }) (number_at line d)
 
--- a place ends in front of the character at its end; one that names none is the word there
-abbrev pub end_before : Option Spot → End
+-- a span ends in front of the character at its end; one that names none is the word there
+abbrev pub end_before : Option Location → End
 end_before None = OfWord
 end_before (Some end) = Before end
 
 -- where a span begins and ends; its line is 0 where it has none
-abbrev pub span_start : Data → Spot
-span_start d = record {
+abbrev pub span_value_start : Data → Location
+span_value_start d = record {
   line = unwrap_or (number_at (codes "line_start") d) 0;
   column = number_at (codes "column_start") d;
 }
 
-abbrev pub span_end : Data → Spot
-span_end d = record {
+abbrev pub span_value_end : Data → Location
+span_value_end d = record {
   line = unwrap_or (number_at (codes "line_end") d) 0;
   column = number_at (codes "column_end") d;
 }
 
 -- ---- gcc
 
--- a spot: its column in bytes, which older ones call `column`
-abbrev pub gcc_spot : Data → Option Spot
-gcc_spot d =
+-- a location: its column in bytes, which older ones call `column`
+abbrev pub gcc_location : Data → Option Location
+gcc_location d =
     option_map
     (λ l. record { line = l; column = option_or (number_at (codes "byte-column") d) (number_at (codes "column") d) })
     (number_at (codes "line") d)
 
-abbrev pub gcc_spot_at : List ℕ → Data → Option Spot
-gcc_spot_at name d = option_and_then gcc_spot (get name d)
+abbrev pub gcc_location_at : List ℕ → Data → Option Location
+gcc_location_at name d = option_and_then gcc_location (get name d)
 
 -- a location ends behind the character at its finish, or else at its caret; one that has no start either is
 -- the word there
-abbrev pub end_behind : Spot → Option Spot → Option Data → End
+abbrev pub end_behind : Location → Option Location → Option Data → End
 end_behind caret (Some finish) start = Behind finish
 end_behind caret None (Some start) = Behind caret
 end_behind caret None None = OfWord
 
-abbrev pub gcc_end : Spot → Data → End
-gcc_end caret d = end_behind caret (gcc_spot_at (codes "finish") d) (get (codes "start") d)
+abbrev pub gcc_end : Location → Data → End
+gcc_end caret d = end_behind caret (gcc_location_at (codes "finish") d) (get (codes "start") d)
 
--- the place of a location of which this is said, whose caret is this: its columns count bytes, without a byte
+-- the span of a location of which this is said, whose caret is this: its columns count bytes, without a byte
 -- order mark
-abbrev pub gcc_place_by : List ℕ → Bool → Data → List ℕ → Spot → Seen
-gcc_place_by said is_primary d file caret =
-    record (place_of file (unwrap_or (gcc_spot_at (codes "start") d) caret) (gcc_end caret d) Byte) {
+abbrev pub gcc_span_by : List ℕ → Bool → Data → List ℕ → Location → Seen
+gcc_span_by said is_primary d file caret =
+    record (span_of file (unwrap_or (gcc_location_at (codes "start") d) caret) (gcc_end caret d) Byte) {
       caret = caret;
       is_past_mark = true;
       text = said;
       is_primary = is_primary;
     }
 
-abbrev pub gcc_place : List ℕ → Bool → Data → Option Seen
-gcc_place said is_primary d =
+abbrev pub gcc_span : List ℕ → Bool → Data → Option Seen
+gcc_span said is_primary d =
     option_and_then
-    (λ caret. option_map (gcc_place_by said is_primary d (words_at (codes "file") caret)) (gcc_spot caret))
+    (λ caret. option_map (gcc_span_by said is_primary d (words_at (codes "file") caret)) (gcc_location caret))
     (get (codes "caret") d)
 
 -- a value of gcc's is a note

@@ -9,19 +9,19 @@ use Rattle.serde_json.specs.Data.{Data, Items, no_items, item}
 use Rattle.serde_json.specs.Find.{get}
 use Rattle.ariadne_parse.specs.declared.unit.Unit.{Unit}
 use Rattle.ariadne_parse.specs.declared.unit.Unit.TheVariants.{Byte, Char}
-use Rattle.ariadne_parse.specs.Members.{all_items, gcc_spot_at, items_in, list_at, span_end, span_start, text_at, words_at}
-use Rattle.ariadne_parse.specs.Places.{is_same_spot}
+use Rattle.ariadne_parse.specs.Members.{all_items, gcc_location_at, items_in, list_at, span_value_end, span_value_start, text_at, words_at}
+use Rattle.ariadne_parse.specs.Spans.{is_same_location}
 use Rattle.ariadne_parse.specs.declared.diagnostic.Change.{Change}
 use Rattle.ariadne_parse.specs.declared.diagnostic.Proposal.{Proposal}
-use Rattle.ariadne_parse.specs.declared.diagnostic.Spot.{Spot}
+use Rattle.ariadne_parse.specs.declared.diagnostic.Location.{Location}
 use Rattle.ariadne_parse.specs.declared.proposals.FileChange.{FileChange}
 
 -- ---- proposals
 
 -- a change as it is read: where the piece begins, in front of what it ends, and the text that is put there
 pub record Edit : Type 0 where
-  pub start : Spot
-  pub end : Spot
+  pub start : Location
+  pub end : Location
   pub put_in : List ℕ
 
 abbrev pub edit_of : Change → Edit
@@ -74,7 +74,7 @@ changes_by change (item d items) = cons_option (change d) (changes_by change ite
 -- a change begins another way: it is the first of all, or begins where that does
 abbrev pub begins_behind : List Edit → Edit → Bool
 begins_behind [] change = true
-begins_behind (first ∷ others) change = is_same_spot first.start change.start
+begins_behind (first ∷ others) change = is_same_location first.start change.start
 
 abbrev pub begins_way : List (List Edit) → Edit → Bool
 begins_way [] change = true
@@ -100,7 +100,7 @@ ways_of changes = fold (λ ways change. with_edit ways change.1) [] changes
 abbrev pub rustc_change : Data → Option Filed
 rustc_change d =
     option_map
-    (λ text. (words_at (codes "file_name") d, record { start = span_start d; end = span_end d; put_in = text }))
+    (λ text. (words_at (codes "file_name") d, record { start = span_value_start d; end = span_value_end d; put_in = text }))
     (text_at (codes "suggested_replacement") d)
 
 abbrev pub rustc_changes : Data → List Filed
@@ -131,8 +131,8 @@ gcc_change d =
     (λ start.
     option_and_then
     (λ end. option_map (λ text. (file, record { start = start; end = end; put_in = text })) (text_at (codes "string") d))
-    (gcc_spot_at (codes "next") d))
-    (gcc_spot_at (codes "start") d))
+    (gcc_location_at (codes "next") d))
+    (gcc_location_at (codes "start") d))
     (option_and_then (text_at (codes "file")) (get (codes "start") d))
 
 -- what fix-its propose that these helps say, if each tells a change: all their changes, as one way. They say why

@@ -1,7 +1,7 @@
 -- Diagnostics as they are read: with their texts in place of what holds these.
 use Rattle.std.specs.Prelude.{ℕ, Bool, List, map, string_bytes, Option, option_map}
 use Rattle.ariadne_color.specs.declared.color.Color.{Color}
-use Rattle.ariadne_parse.specs.Places.{named, seen, Seen}
+use Rattle.ariadne_parse.specs.Spans.{named, seen, Seen}
 use Rattle.ariadne_parse.specs.Proposed.{proposed, Proposed}
 use Rattle.ariadne_parse.specs.declared.diagnostic.Diagnostic.{Diagnostic}
 use Rattle.ariadne_parse.specs.declared.diagnostic.QuotedLine.{QuotedLine}
@@ -22,7 +22,7 @@ pub record Read : Type 0 where
   pub own_kind : Option (List ℕ × Option Color)
   pub code : Option (List ℕ)
   pub message : List ℕ
-  pub places : List Seen
+  pub spans : List Seen
   pub notes : List (List ℕ)
   pub helps : List (List ℕ)
   pub proposals : List Proposed
@@ -31,16 +31,16 @@ pub record Read : Type 0 where
   pub is_sum : Bool
 
 abbrev pub read : Diagnostic → Read
-read told = record {
-  severity = told.severity;
-  own_kind = option_map named told.own_kind;
-  code = option_map string_bytes told.code;
-  message = string_bytes told.message;
-  places = map seen told.places.items;
-  notes = map string_bytes told.notes.items;
-  helps = map string_bytes told.helps.items;
-  proposals = map proposed told.proposals.items;
-  quoted = map as_quoted told.quoted.items;
-  manifest = option_map string_bytes told.manifest;
-  is_sum = told.is_sum;
+read parsed = record {
+  severity = parsed.severity;
+  own_kind = option_map named parsed.own_kind;
+  code = option_map string_bytes parsed.code;
+  message = string_bytes parsed.message;
+  spans = map seen parsed.spans.items;
+  notes = map string_bytes parsed.notes.items;
+  helps = map string_bytes parsed.helps.items;
+  proposals = map proposed parsed.proposals.items;
+  quoted = map as_quoted parsed.quoted.items;
+  manifest = option_map string_bytes parsed.manifest;
+  is_sum = parsed.is_sum;
 }

@@ -1,4 +1,4 @@
--- What a report of the program's own form becomes: its kind and code, its places, its notes and its helps.
+-- What a report of the program's own form becomes: its kind and code, its spans, its notes and its helps.
 use Rattle.std.specs.Prelude.{ℕ, ◌≡◌, ◌^◌, ℤ, pos, negsuc, nat_lt, Bool, false, not, ◌||◌, if◌then◌else◌}
 use Rattle.std.specs.Prelude.{List, [], ◌∷◌, codes, map, string_bytes, unwrap_or}
 use Rattle.std.specs.Prelude.{Option, Some, None, option_and_then, option_map}
@@ -13,10 +13,10 @@ use Rattle.ariadne_color.specs.declared.color.Color.TheVariants.{BrightBlack, Br
 use Rattle.ariadne_parse.specs.declared.unit.Unit.{Unit}
 use Rattle.ariadne_parse.specs.declared.unit.Unit.TheVariants.{Byte, Char, Display, Utf16}
 use Rattle.ariadne_parse.specs.Members.{end_before, is_true_at, items_in, list_at, number_of, severity_at, text_at, words_at}
-use Rattle.ariadne_parse.specs.Places.{named, place_of, seen, Seen}
+use Rattle.ariadne_parse.specs.Spans.{named, span_of, seen, Seen}
 use Rattle.ariadne_parse.specs.declared.diagnostic.Diagnostic.{Diagnostic}
 use Rattle.ariadne_parse.specs.declared.diagnostic.Look.{Look}
-use Rattle.ariadne_parse.specs.declared.diagnostic.Spot.{Spot}
+use Rattle.ariadne_parse.specs.declared.diagnostic.Location.{Location}
 
 -- ---- colours
 
@@ -74,7 +74,7 @@ color_at name d = option_and_then color_of (get name d)
 abbrev pub report_kind : Data → Option (List ℕ × Option Color)
 report_kind d = option_map (λ name. (name, color_at (codes "name_color") d)) (text_at (codes "name") d)
 
--- ---- places
+-- ---- spans
 
 -- what its columns count: characters, if it names nothing else
 abbrev pub unit_named : Option (List ℕ) → Unit
@@ -86,17 +86,17 @@ unit_named (Some name) =
 abbrev pub report_unit : Data → Unit
 report_unit d = unit_named (text_at (codes "columns") d)
 
--- a spot: a list of a line and a column, or of a line alone
+-- a location: a list of a line and a column, or of a line alone
 abbrev pub first_number : Items → Option ℕ
 first_number no_items = None
 first_number (item d items) = number_of d
 
-abbrev pub spot_in : Items → Option Spot
-spot_in no_items = None
-spot_in (item line items) = option_map (λ l. record { line = l; column = first_number items }) (number_of line)
+abbrev pub location_in : Items → Option Location
+location_in no_items = None
+location_in (item line items) = option_map (λ l. record { line = l; column = first_number items }) (number_of line)
 
-abbrev pub label_spot : List ℕ → Data → Option Spot
-label_spot name d = spot_in (items_in (list_at name d))
+abbrev pub label_location : List ℕ → Data → Option Location
+label_location name d = location_in (items_in (list_at name d))
 
 -- a member that is a whole number of 32 bits
 abbrev pub has_32_bits : ℤ → Bool
@@ -116,10 +116,10 @@ look_at d = record {
   color = color_at (codes "color") d;
 }
 
--- the place of a label that begins here
-abbrev pub label_place : Unit → Bool → Data → Spot → Seen
-label_place unit is_primary d start =
-    record (place_of (words_at (codes "file") d) start (end_before (label_spot (codes "end") d)) unit) {
+-- the span of a label that begins here
+abbrev pub label_span : Unit → Bool → Data → Location → Seen
+label_span unit is_primary d start =
+    record (span_of (words_at (codes "file") d) start (end_before (label_location (codes "end") d)) unit) {
       text = words_at (codes "text") d;
       is_primary = is_primary;
       look = look_at d;
@@ -133,19 +133,19 @@ abbrev pub has_primary : Items → Bool
 has_primary no_items = false
 has_primary (item d items) = is_primary d || has_primary items
 
--- the places of labels; the first is primary in any case, or is not
-abbrev pub label_places : Unit → Bool → Items → List Seen
-label_places unit first no_items = []
-label_places unit first (item d items) =
-    cons_option (option_map (label_place unit (is_primary d || first) d) (label_spot (codes "start") d))
-    (label_places unit false items)
+-- the spans of labels; the first is primary in any case, or is not
+abbrev pub label_spans : Unit → Bool → Items → List Seen
+label_spans unit first no_items = []
+label_spans unit first (item d items) =
+    cons_option (option_map (label_span unit (is_primary d || first) d) (label_location (codes "start") d))
+    (label_spans unit false items)
 
 -- where none is primary, the first one is
-abbrev pub places_in : Unit → Items → List Seen
-places_in unit labels = label_places unit (not (has_primary labels)) labels
+abbrev pub spans_in : Unit → Items → List Seen
+spans_in unit labels = label_spans unit (not (has_primary labels)) labels
 
-abbrev pub report_places : Data → List Seen
-report_places d = places_in (report_unit d) (items_in (list_at (codes "labels") d))
+abbrev pub report_spans : Data → List Seen
+report_spans d = spans_in (report_unit d) (items_in (list_at (codes "labels") d))
 
 -- ---- notes and helps
 
@@ -160,15 +160,15 @@ texts_at name d = texts_in (items_in (list_at name d))
 -- ---- reports
 
 -- a diagnostic is what a report tells, which proposes nothing and quotes nothing
-pub record IsOfReport (d : Data) (told : Diagnostic) : Type 0 where
-  pub severity : told.severity ≡ severity_at (codes "kind") d
-  pub own_kind : option_map named told.own_kind ≡ report_kind d
-  pub code : option_map string_bytes told.code ≡ text_at (codes "code") d
-  pub message : string_bytes told.message ≡ words_at (codes "message") d
-  pub places : map seen told.places.items ≡ report_places d
-  pub notes : map string_bytes told.notes.items ≡ texts_at (codes "notes") d
-  pub helps : map string_bytes told.helps.items ≡ texts_at (codes "helps") d
-  pub proposals : told.proposals.items ≡ []
-  pub quoted : told.quoted.items ≡ []
-  pub manifest : told.manifest ≡ None
-  pub is_sum : told.is_sum ≡ false
+pub record IsOfReport (d : Data) (parsed : Diagnostic) : Type 0 where
+  pub severity : parsed.severity ≡ severity_at (codes "kind") d
+  pub own_kind : option_map named parsed.own_kind ≡ report_kind d
+  pub code : option_map string_bytes parsed.code ≡ text_at (codes "code") d
+  pub message : string_bytes parsed.message ≡ words_at (codes "message") d
+  pub spans : map seen parsed.spans.items ≡ report_spans d
+  pub notes : map string_bytes parsed.notes.items ≡ texts_at (codes "notes") d
+  pub helps : map string_bytes parsed.helps.items ≡ texts_at (codes "helps") d
+  pub proposals : parsed.proposals.items ≡ []
+  pub quoted : parsed.quoted.items ≡ []
+  pub manifest : parsed.manifest ≡ None
+  pub is_sum : parsed.is_sum ≡ false

@@ -7,11 +7,11 @@ use Rattle.std.specs.Option.{option_or}
 use Rattle.std.specs.Str.{chars, encode_utf8_all, trim_end, trim_start}
 use Rattle.serde_json.specs.Data.{Data, Items, no_items, item}
 use Rattle.ariadne_parse.specs.Fixes.{change_words, joint_words, line_words, unnamed, up_to, worded, Standing}
-use Rattle.ariadne_parse.specs.Members.{any_item, has_number, items_in, list_at, number_at, span_end, span_start, text_at}
+use Rattle.ariadne_parse.specs.Members.{any_item, has_number, items_in, list_at, number_at, span_value_end, span_value_start, text_at}
 use Rattle.ariadne_parse.specs.Members.{words_at}
 use Rattle.ariadne_parse.specs.TextPieces.{closes_with, split_once}
-use Rattle.ariadne_parse.specs.Places.{is_same_spot}
-use Rattle.ariadne_parse.specs.declared.diagnostic.Spot.{Spot}
+use Rattle.ariadne_parse.specs.Spans.{is_same_location}
+use Rattle.ariadne_parse.specs.declared.diagnostic.Location.{Location}
 
 -- ---- quoted lines
 
@@ -44,14 +44,14 @@ abbrev pub chars_up_to : Data → ℕ
 chars_up_to d = unwrap_or (number_at (codes "highlight_end") d) 0 - 1
 
 -- a quoted line up to its span, the line from there on, and what the span covers of it
-abbrev pub before_span : Data → List ℕ
-before_span d = front_chars (chars_before d) (quoted_line d)
+abbrev pub before_span_value : Data → List ℕ
+before_span_value d = front_chars (chars_before d) (quoted_line d)
 
-abbrev pub from_span : Data → List ℕ
-from_span d = behind_chars (chars_before d) (quoted_line d)
+abbrev pub from_span_value : Data → List ℕ
+from_span_value d = behind_chars (chars_before d) (quoted_line d)
 
 unfoldable pub highlighted : Data → List ℕ
-highlighted d = front_chars (chars_up_to d - chars_before d) (from_span d)
+highlighted d = front_chars (chars_up_to d - chars_before d) (from_span_value d)
 
 abbrev pub is_highlighted : Data → Bool
 is_highlighted d = not (length (highlighted d) == 0)
@@ -67,7 +67,7 @@ standing_text text = if length text == 0 then unnamed else worded text
 abbrev pub covered_in : Data → Items → Standing
 covered_in d no_items = unnamed
 covered_in d (item line others) =
-    if any_item is_highlighted others then up_to (span_end d) else standing_text (highlighted line)
+    if any_item is_highlighted others then up_to (span_value_end d) else standing_text (highlighted line)
 
 unfoldable pub covered : Data → Standing
 covered d = covered_in d (quoted_in d)
@@ -85,37 +85,37 @@ put_text text = if length (before_feeds text) == 0 then text else before_feeds t
 -- quoted for it has nothing else there
 abbrev pub is_blank_before : Items → Bool
 is_blank_before no_items = false
-is_blank_before (item line others) = length (trim_start (before_span line)) == 0
+is_blank_before (item line others) = length (trim_start (before_span_value line)) == 0
 
 unfoldable pub is_first : Data → Bool
 is_first d = has_number (codes "column_start") 1 d || is_blank_before (quoted_in d)
 
 -- a text is put in as a line: it ends one, takes the place of nothing, and nothing but white space stands in front
 abbrev pub is_line_put : Data → List ℕ → Bool
-is_line_put d text = closes_with (codes "\n") text && is_same_spot (span_start d) (span_end d) && is_first d
+is_line_put d text = closes_with (codes "\n") text && is_same_location (span_value_start d) (span_value_end d) && is_first d
 
 -- what a span says that puts in a text: a line without the white space at its end, or a change of what it covers
 unfoldable pub part_words : Data → List ℕ → List ℕ
 part_words d text =
     if is_line_put d text
-    then line_words (span_start d).line (trim_end text)
-    else change_words (span_start d) (covered d) (put_text text)
+    then line_words (span_value_start d).line (trim_end text)
+    else change_words (span_value_start d) (covered d) (put_text text)
 
 -- ---- what spans say
 
 -- what a span says behind the others, of which the first that puts in a text began here, if there was one; it says
 -- nothing where it puts in none
-abbrev pub part_behind : Option Spot → Data → List ℕ → List ℕ
-part_behind first d text = joint_words first (span_start d) ++ part_words d text
+abbrev pub part_behind : Option Location → Data → List ℕ → List ℕ
+part_behind first d text = joint_words first (span_value_start d) ++ part_words d text
 
-abbrev pub said_behind : Option Spot → Data → List ℕ
+abbrev pub said_behind : Option Location → Data → List ℕ
 said_behind first d = unwrap_or (option_map (part_behind first d) (text_at (codes "suggested_replacement") d)) []
 
 -- where the first of them all began, behind it
-abbrev pub first_behind : Option Spot → Data → Option Spot
-first_behind first d = option_or first (option_map (λ text. span_start d) (text_at (codes "suggested_replacement") d))
+abbrev pub first_behind : Option Location → Data → Option Location
+first_behind first d = option_or first (option_map (λ text. span_value_start d) (text_at (codes "suggested_replacement") d))
 
 -- what spans say, one behind the other
-abbrev pub parts_behind : Option Spot → Items → List ℕ
+abbrev pub parts_behind : Option Location → Items → List ℕ
 parts_behind first no_items = []
 parts_behind first (item d items) = said_behind first d ++ parts_behind (first_behind first d) items

@@ -2,7 +2,7 @@
 
 ghost use Rattle.std.specs.Prelude.{◌≡◌, option_map};
 ghost use Rattle.serde_json.specs.View.{view};
-ghost use Rattle.ariadne_parse.specs.ParsedLines.{handed_on as is_handed_on, is_of_cargo as is_cargos};
+ghost use Rattle.ariadne_parse.specs.ParsedDiagnostics.{handed_on as is_handed_on, is_of_cargo as is_cargos};
 
 use crate::json::text;
 use crate::rustc::rustc_message;

@@ -85,7 +85,7 @@ impl Columns {
     /// The line and the column of an offset in characters, both from 1. One past the text is its end.
     ///
     /// A column past the greatest number is that number.
-    pub fn spot_at(&self, unit: Unit, offset: usize) -> (usize, usize)
+    pub fn location_at(&self, unit: Unit, offset: usize) -> (usize, usize)
         ensures line { result.0 ≡ number_of_line self.now (min offset (length self.now)) }
         ensures column { result.1 ≡ number_of_column unit self.now (min offset (length self.now)) }
     {
@@ -136,9 +136,9 @@ fn begins_of(alloc: Global, text: &[char]) -> Result<Vec<usize>, AllocError>
     ensures { IfOk result (λ begins. begins.items ≡ line_begins text.now) }
 {
     let mut begins = vec![in alloc; 0]?;
-    for (place, c) in text.iter().enumerate() {
+    for (span, c) in text.iter().enumerate() {
         if *c == '\n' {
-            begins.push(place + 1)?;
+            begins.push(span + 1)?;
         }
     }
     Ok(begins)
@@ -169,17 +169,17 @@ fn passed(text: &[char], unit: Unit, limit: usize) -> usize
     ensures bound { result ≤ length text.now }
 {
     let mut at = 0;
-    for (place, c) in text.iter().enumerate() {
+    for (span, c) in text.iter().enumerate() {
         let columns = columns_of(unit, at, *c);
         if *c == '\n' || columns > limit - at {
-            return place;
+            return span;
         }
         at += columns;
     }
     text.len()
 }
 
-/// How many columns the text in front of a place takes in its line.
+/// How many columns the text in front of a span takes in its line.
 fn width_of(unit: Unit, text: &[char]) -> usize
     ensures { result ≡ columns_in unit text.now }
 {
@@ -202,9 +202,9 @@ fn word_length(text: &[char]) -> usize
     ensures length { result ≡ prefix_len is_of_word text.now }
     ensures bound { result ≤ length text.now }
 {
-    for (place, c) in text.iter().enumerate() {
+    for (span, c) in text.iter().enumerate() {
         if !is_word(*c) {
-            return place;
+            return span;
         }
     }
     text.len()

@@ -1,9 +1,9 @@
 //! How the columns of a line count.
 
 ghost use Rattle.std.specs.Prelude.{◌≡◌};
-ghost use Rattle.ariadne_parse.specs.Places as places;
+ghost use Rattle.ariadne_parse.specs.Spans as spans;
 
-use crate::diagnostic::{End, Spot};
+use crate::diagnostic::{End, Location};
 use crate::unit::Unit;
 
 /// How columns count.
@@ -16,38 +16,38 @@ pub struct Counting {
 }
 
 impl Counting {
-    /// The spot, with a column from 1, that this one is whose column counts so.
-    pub(crate) fn spot(self, spot: Spot) -> Spot
-        ensures { result ≡ places.counted_spot self spot }
+    /// The location, with a column from 1, that this one is whose column counts so.
+    pub(crate) fn location(self, location: Location) -> Location
+        ensures { result ≡ spans.counted_location self location }
     {
         if self.is_from_zero {
-            from_one(spot)
+            from_one(location)
         } else {
-            spot
+            location
         }
     }
 
-    /// Where a place ends that ends there, where columns count so.
+    /// Where a span ends that ends there, where columns count so.
     pub(crate) fn end(self, end: End) -> End
-        ensures { result ≡ places.counted_end self end }
+        ensures { result ≡ spans.counted_end self end }
     {
         match end {
-            End::Before(spot) => End::Before(self.spot(spot)),
-            End::Behind(spot) => End::Behind(self.spot(spot)),
+            End::Before(location) => End::Before(self.location(location)),
+            End::Behind(location) => End::Behind(self.location(location)),
             End::OfWord => End::OfWord,
         }
     }
 }
 
-/// A spot whose column counts from 1, of one whose column counts from 0.
-fn from_one(spot: Spot) -> Spot
-    ensures { result ≡ places.from_one spot }
+/// A location whose column counts from 1, of one whose column counts from 0.
+fn from_one(location: Location) -> Location
+    ensures { result ≡ spans.from_one location }
 {
-    match spot.column {
-        Some(column) => Spot {
-            line: spot.line,
+    match location.column {
+        Some(column) => Location {
+            line: location.line,
             column: Some(column.saturating_add(1)),
         },
-        None => spot,
+        None => location,
     }
 }

@@ -1,10 +1,10 @@
-//! What a tool tells: a diagnostic, and the places that it is about.
+//! What a tool tells: a diagnostic, and the spans that it is about.
 
 ghost use Rattle.std.specs.Prelude.{◌≡◌, [], false, IfOk, None, string_bytes};
 ghost use Rattle.std.specs.Option.{option_copied};
 ghost use Rattle.ariadne_parse.specs.Severities.{severity_of};
-ghost use Rattle.ariadne_parse.specs.ParsedLines.{main_of};
-ghost use Rattle.ariadne_parse.specs.ParsedLines.{first_primary as first_primary_of};
+ghost use Rattle.ariadne_parse.specs.ParsedDiagnostics.{main_of};
+ghost use Rattle.ariadne_parse.specs.ParsedDiagnostics.{first_primary as first_primary_of};
 
 use crate::names::{is_error, is_note, is_warning};
 use crate::unit::Unit;
@@ -44,25 +44,25 @@ impl Severity {
 /// A line of a file, and a column of it. Both count from 1. Without a column it is the line from its
 /// start.
 #[derive(Clone, Copy, Debug, PartialEq, Eq)]
-pub struct Spot {
+pub struct Location {
     /// The line.
     pub line: usize,
-    /// The column, in the unit of the place.
+    /// The column, in the unit of the span.
     pub column: Option<usize>,
 }
 
-/// Where a place ends.
+/// Where a span ends.
 #[derive(Clone, Copy, Debug, PartialEq, Eq)]
 pub enum End {
     /// In front of the character that stands there.
-    Before(Spot),
+    Before(Location),
     /// Behind the character that stands there.
-    Behind(Spot),
+    Behind(Location),
     /// Behind the word that it begins with; or at the end of its line, where it has no column.
     OfWord,
 }
 
-/// How a place is drawn.
+/// How a span is drawn.
 #[derive(Clone, Copy, Debug, Default, PartialEq, Eq)]
 pub struct Look {
     /// Its label's order: those of a lower one are drawn first. It is 0 where none is told.
@@ -76,13 +76,13 @@ pub struct Look {
 
 /// A piece of a file, and what is said of it.
 #[derive(Debug, Drop)]
-pub struct Place {
+pub struct Span {
     /// The file's path, as the tool wrote it.
     pub file: String,
     /// Where the tool points.
-    pub caret: Spot,
+    pub caret: Location,
     /// Where it begins.
-    pub start: Spot,
+    pub start: Location,
     /// Where it ends.
     pub end: End,
     /// What its columns count.
@@ -91,13 +91,13 @@ pub struct Place {
     pub is_past_mark: bool,
     /// What is said of it; nothing where it is empty.
     pub text: String,
-    /// Whether the diagnostic is about this place.
+    /// Whether the diagnostic is about this span.
     pub is_primary: bool,
     /// How it is drawn.
     pub look: Look,
     /// From where to where the tool's own marks cover it, if it draws some: in front of the character at
-    /// the second spot they end. Their columns count characters. They are surer than `start` and `end`.
-    pub marks: Option<(Spot, Spot)>,
+    /// the second location they end. Their columns count characters. They are surer than `start` and `end`.
+    pub marks: Option<(Location, Location)>,
 }
 
 /// A kind of the tool's own.
@@ -124,9 +124,9 @@ pub struct QuotedLine {
 #[derive(Debug, Drop)]
 pub struct Change {
     /// Where the piece begins.
-    pub start: Spot,
+    pub start: Location,
     /// Where it ends: in front of this. It is `start` for an insertion.
-    pub end: Spot,
+    pub end: Location,
     /// The text put there.
     pub put_in: String,
 }
@@ -159,8 +159,8 @@ pub struct Diagnostic {
     pub code: Option<String>,
     /// What it says.
     pub message: String,
-    /// The places that it is about.
-    pub places: Vec<Place>,
+    /// The spans that it is about.
+    pub spans: Vec<Span>,
     /// What it says beside.
     pub notes: Vec<String>,
     /// What it proposes.
@@ -178,24 +178,24 @@ pub struct Diagnostic {
 impl Diagnostic {
     /// A diagnostic that says this, and has nothing else yet.
     pub fn new(alloc: Global, severity: Severity, message: &str) -> Result<Diagnostic, AllocError>
-        ensures severity { IfOk result (λ told. told.severity ≡ severity) }
-        ensures own_kind { IfOk result (λ told. told.own_kind ≡ None) }
-        ensures code { IfOk result (λ told. told.code ≡ None) }
-        ensures message { IfOk result (λ told. string_bytes told.message ≡ message.now) }
-        ensures places { IfOk result (λ told. told.places.items ≡ []) }
-        ensures notes { IfOk result (λ told. told.notes.items ≡ []) }
-        ensures helps { IfOk result (λ told. told.helps.items ≡ []) }
-        ensures proposals { IfOk result (λ told. told.proposals.items ≡ []) }
-        ensures quoted { IfOk result (λ told. told.quoted.items ≡ []) }
-        ensures manifest { IfOk result (λ told. told.manifest ≡ None) }
-        ensures counted { IfOk result (λ told. told.is_sum ≡ false) }
+        ensures severity { IfOk result (λ parsed. parsed.severity ≡ severity) }
+        ensures own_kind { IfOk result (λ parsed. parsed.own_kind ≡ None) }
+        ensures code { IfOk result (λ parsed. parsed.code ≡ None) }
+        ensures message { IfOk result (λ parsed. string_bytes parsed.message ≡ message.now) }
+        ensures spans { IfOk result (λ parsed. parsed.spans.items ≡ []) }
+        ensures notes { IfOk result (λ parsed. parsed.notes.items ≡ []) }
+        ensures helps { IfOk result (λ parsed. parsed.helps.items ≡ []) }
+        ensures proposals { IfOk result (λ parsed. parsed.proposals.items ≡ []) }
+        ensures quoted { IfOk result (λ parsed. parsed.quoted.items ≡ []) }
+        ensures manifest { IfOk result (λ parsed. parsed.manifest ≡ None) }
+        ensures counted { IfOk result (λ parsed. parsed.is_sum ≡ false) }
     {
         Ok(Diagnostic {
             severity,
             own_kind: None,
             code: None,
             message: String::from_str(alloc, message)?,
-            places: Vec::new(alloc),
+            spans: Vec::new(alloc),
             notes: Vec::new(alloc),
             helps: Vec::new(alloc),
             proposals: Vec::new(alloc),
@@ -205,20 +205,20 @@ impl Diagnostic {
         })
     }
 
-    /// The place that it is about: the first primary one, or the first.
-    pub fn main_place(&self) -> Option<&Place>
-        ensures { option_copied result ≡ main_of self.now.places.items }
+    /// The span that it is about: the first primary one, or the first.
+    pub fn main_span(&self) -> Option<&Span>
+        ensures { option_copied result ≡ main_of self.now.spans.items }
     {
-        match first_primary(self.places.as_slice()) {
-            Some(place) => Some(place),
-            None => self.places.first(),
+        match first_primary(self.spans.as_slice()) {
+            Some(span) => Some(span),
+            None => self.spans.first(),
         }
     }
 }
 
-/// The first primary one of places.
-fn first_primary(places: &[Place]) -> Option<&Place>
-    ensures { option_copied result ≡ first_primary_of places.now }
+/// The first primary one of spans.
+fn first_primary(spans: &[Span]) -> Option<&Span>
+    ensures { option_copied result ≡ first_primary_of spans.now }
 {
-    places.iter().find(|place| place.is_primary)
+    spans.iter().find(|span| span.is_primary)
 }

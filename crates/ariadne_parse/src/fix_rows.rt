@@ -3,11 +3,11 @@
 
 ghost use Rattle.std.specs.Prelude.{◌≡◌, option_map};
 ghost use Rattle.ariadne_parse.specs.FixRows as rows;
-ghost use Rattle.ariadne_parse.specs.FixRows.{fix_row_told};
+ghost use Rattle.ariadne_parse.specs.FixRows.{fix_row_parsed};
 
-use crate::diagnostic::Spot;
+use crate::diagnostic::Location;
+use crate::locations::range;
 use crate::pieces::{behind, behind_text, in_front_of, split_once};
-use crate::spots::range;
 
 /// What such a row tells, in pieces of it.
 #[derive(Clone, Copy, Debug)]
@@ -15,9 +15,9 @@ pub struct FixRow<'a> {
     /// The file's path, as it stands in quotes.
     pub file: &'a str,
     /// Where what is replaced begins. Columns count bytes from 1.
-    pub start: Spot,
+    pub start: Location,
     /// In front of which character it ends.
-    pub end: Spot,
+    pub end: Location,
     /// What is put there, as it stands in quotes: a backslash stands in front of quotes and backslashes, a line
     /// feed is `\n`, and other bytes have three octal digits behind a backslash.
     pub text: &'a str,
@@ -26,10 +26,10 @@ pub struct FixRow<'a> {
 /// What a line tells, if it is such a row.
 #[tactic(auto, unfolding(crate::specs::FixRows::fix_row_in))]
 pub fn fix_row_of(line: &str) -> Option<FixRow<'_>>
-    ensures { option_map fix_row_told result ≡ rows.fix_row_in line.now }
+    ensures { option_map fix_row_parsed result ≡ rows.fix_row_in line.now }
 {
     let (file, rest) = file_in(line)?;
-    let (start, end, rest) = place_in(rest)?;
+    let (start, end, rest) = span_in(rest)?;
     let text = text_in(rest)?;
     Some(FixRow {
         file,
@@ -48,9 +48,9 @@ fn file_in(line: &str) -> Option<(&str, &str)>
 }
 
 /// The range behind a colon, and what stands behind it.
-#[tactic(auto, unfolding(crate::specs::FixRows::place_in))]
-fn place_in(text: &str) -> Option<(Spot, Spot, &str)>
-    ensures { option_map (λ found. (found.0, found.1, found.2.now)) result ≡ rows.place_in text.now }
+#[tactic(auto, unfolding(crate::specs::FixRows::span_in))]
+fn span_in(text: &str) -> Option<(Location, Location, &str)>
+    ensures { option_map (λ found. (found.0, found.1, found.2.now)) result ≡ rows.span_in text.now }
 {
     range(behind(text, ':')?)
 }

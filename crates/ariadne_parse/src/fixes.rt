@@ -1,13 +1,13 @@
 //! What helps say that change a file.
 
 ghost use Rattle.std.specs.Prelude.{◌≡◌, ◌++◌, map, string_bytes, IfOk, OnOk};
-ghost use Rattle.ariadne_parse.specs.Fixes.{change_words, further_words, fix_words, line_words, place_words};
+ghost use Rattle.ariadne_parse.specs.Fixes.{change_words, further_words, fix_words, line_words, span_words};
 ghost use Rattle.ariadne_parse.specs.Fixes.{put_words, reasoned, reasoned_words, standing, there_words};
 
-use crate::diagnostic::Spot;
+use crate::diagnostic::Location;
 use std::alloc::{AllocError, Global};
 
-/// What stands at a place of a file before it is changed.
+/// What stands at a span of a file before it is changed.
 #[derive(Clone, Copy)]
 pub enum Covered<'a> {
     /// Nothing, or what the tool doesn't name.
@@ -15,14 +15,14 @@ pub enum Covered<'a> {
     /// This, in one line.
     Text(&'a str),
     /// What goes on up to here, in a later line.
-    UpTo(Spot),
+    UpTo(Location),
 }
 
-/// What a help says that puts a text in at a place, for what stands there; where the text is empty, that is
+/// What a help says that puts a text in at a span, for what stands there; where the text is empty, that is
 /// removed.
 pub fn change_text(
     alloc: Global,
-    at: Spot,
+    at: Location,
     covered: &Covered<'_>,
     put_in: &str,
 ) -> Result<String, AllocError>
@@ -35,10 +35,10 @@ pub fn change_text(
     put_text(alloc, at, covered, put_in)
 }
 
-/// What a help says that puts a text in at a place, for what stands there.
+/// What a help says that puts a text in at a span, for what stands there.
 fn put_text(
     alloc: Global,
-    at: Spot,
+    at: Location,
     covered: &Covered<'_>,
     put_in: &str,
 ) -> Result<String, AllocError>
@@ -53,12 +53,12 @@ fn put_text(
     }
 }
 
-/// What a help says that puts a text in at a place.
-pub(crate) fn fix_text(alloc: Global, at: Spot, put_in: &str) -> Result<String, AllocError>
+/// What a help says that puts a text in at a span.
+pub(crate) fn fix_text(alloc: Global, at: Location, put_in: &str) -> Result<String, AllocError>
     ensures { IfOk result (λ text. string_bytes text ≡ fix_words at put_in.now) }
 {
-    let place = place_text(alloc, at)?;
-    format!(in alloc; "put `{put_in}` at {place}")
+    let span = span_text(alloc, at)?;
+    format!(in alloc; "put `{put_in}` at {span}")
 }
 
 /// What a help says that puts lines in.
@@ -68,24 +68,24 @@ pub(crate) fn line_text(alloc: Global, line: usize, put_in: &str) -> Result<Stri
     format!(in alloc; "put the line `{put_in}` in front of line {line}")
 }
 
-/// What stands at a place, and where that is.
-fn there_text(alloc: Global, at: Spot, covered: &Covered<'_>) -> Result<String, AllocError>
+/// What stands at a span, and where that is.
+fn there_text(alloc: Global, at: Location, covered: &Covered<'_>) -> Result<String, AllocError>
     ensures { IfOk result (λ text. string_bytes text ≡ there_words at (standing covered.now)) }
 {
-    let place = place_text(alloc, at)?;
+    let span = span_text(alloc, at)?;
     match covered {
-        Covered::Unnamed => format!(in alloc; "what stands at {place}"),
-        Covered::Text(text) => format!(in alloc; "`{text}` at {place}"),
+        Covered::Unnamed => format!(in alloc; "what stands at {span}"),
+        Covered::Text(text) => format!(in alloc; "`{text}` at {span}"),
         Covered::UpTo(end) => {
-            let end = place_text(alloc, *end)?;
-            format!(in alloc; "what stands from {place} to {end}")
+            let end = span_text(alloc, *end)?;
+            format!(in alloc; "what stands from {span} to {end}")
         }
     }
 }
 
 /// A line and a column, which is the first where it has none.
-fn place_text(alloc: Global, at: Spot) -> Result<String, AllocError>
-    ensures { IfOk result (λ text. string_bytes text ≡ place_words at) }
+fn span_text(alloc: Global, at: Location) -> Result<String, AllocError>
+    ensures { IfOk result (λ text. string_bytes text ≡ span_words at) }
 {
     let line = at.line;
     let column = at.column.unwrap_or(1);

@@ -7,7 +7,7 @@ ghost use Rattle.ariadne_parse.specs.Members.{all_items};
 ghost use Rattle.ariadne_parse.specs.Proposed.{changes_by, filed, gcc_change, gcc_proposed, gcc_proposed_by, proposed};
 
 use crate::diagnostic::Proposal;
-use crate::gcc::spot_of;
+use crate::gcc::location_of;
 use crate::json::text;
 use crate::proposals::{FileChange, one_file, way_of_all};
 use crate::unit::Unit;
@@ -99,8 +99,8 @@ fn change_of(fixit: &Value) -> Option<FileChange<'_>>
     ensures { option_map filed result ≡ gcc_change (view fixit.now) }
 {
     let file = text(fixit.get("start")?, "file")?;
-    let start = spot_of(fixit, "start")?;
-    let end = spot_of(fixit, "next")?;
+    let start = location_of(fixit, "start")?;
+    let end = location_of(fixit, "next")?;
     let put_in = text(fixit, "string")?;
     Some(FileChange {
         file,

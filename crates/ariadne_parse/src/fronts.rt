@@ -1,20 +1,20 @@
-//! Lines in front of a diagnostic that say how the tool came to its place: which files include that one,
+//! Lines in front of a diagnostic that say how the tool came to its span: which files include that one,
 //! what was called, and what the tool was in.
 
 ghost use Rattle.std.specs.Prelude.{◌≡◌, option_and_then, option_map, IfOk};
 ghost use Rattle.ariadne_parse.specs.Fronts as fronts;
-ghost use Rattle.ariadne_parse.specs.FrontsTold.{front_told, place_of_front};
+ghost use Rattle.ariadne_parse.specs.FrontsParsed.{front_parsed, span_of_front};
 ghost use Rattle.ariadne_parse.specs.TextPieces as pieces;
-ghost use Rattle.ariadne_parse.specs.Places.{seen};
+ghost use Rattle.ariadne_parse.specs.Spans.{seen};
 
-use crate::diagnostic::{End, Place, Spot};
-use crate::heads::place as place_of_file;
+use crate::diagnostic::{End, Location, Span};
+use crate::heads::span as span_of_file;
 use crate::lines::{COLONS, cut_at_colon};
+use crate::locations::span;
 use crate::pieces::{
     begins_with, behind, behind_text, in_front_of, in_front_of_text, is_flush, past_blanks,
     split_at_last, split_once, whole_number,
 };
-use crate::spots::place;
 use crate::unit::Unit;
 use std::alloc::{AllocError, Global};
 
@@ -25,20 +25,20 @@ pub struct Front<'a> {
     pub file: &'a str,
     /// The line from 1, and the column from 1, if one is told. It counts bytes, whatever the columns of heads
     /// count: so gcc writes these lines.
-    pub start: Spot,
+    pub start: Location,
     /// What a label there says.
     pub text: &'a str,
 }
 
 impl Front<'_> {
-    /// The place that it tells, with what a label there says. It is not primary. On `Err` there was no
+    /// The span that it tells, with what a label there says. It is not primary. On `Err` there was no
     /// memory for it.
-    pub fn place(&self, alloc: Global) -> Result<Place, AllocError>
-        ensures { IfOk result (λ place. seen place ≡ place_of_front (front_told self.now)) }
+    pub fn span(&self, alloc: Global) -> Result<Span, AllocError>
+        ensures { IfOk result (λ span. seen span ≡ span_of_front (front_parsed self.now)) }
     {
-        let mut place = place_of_file(alloc, self.file, self.start, End::OfWord, Unit::Byte)?;
-        place.text.push_str(self.text)?;
-        Ok(place)
+        let mut span = span_of_file(alloc, self.file, self.start, End::OfWord, Unit::Byte)?;
+        span.text.push_str(self.text)?;
+        Ok(span)
     }
 }
 
@@ -46,10 +46,10 @@ impl Front<'_> {
 /// `from FILE:LINE:` below it, `inlined from 'NAME' at FILE:LINE:COLUMN:`, and
 /// `FILE:LINE:COLUMN:   required from here`.
 ///
-/// What a label says is `included here`, or what the line says beside its place.
+/// What a label says is `included here`, or what the line says beside its span.
 #[tactic(auto, unfolding(crate::specs::Fronts::front_in))]
 pub fn front_of(line: &str) -> Option<Front<'_>>
-    ensures { option_map front_told result ≡ fronts.front_in line.now }
+    ensures { option_map front_parsed result ≡ fronts.front_in line.now }
 {
     if let Some(front) = include(line) {
         return Some(front);
@@ -63,10 +63,10 @@ pub fn front_of(line: &str) -> Option<Front<'_>>
 /// A file that includes another.
 #[tactic(auto, unfolding(crate::specs::Fronts::include_in))]
 fn include(line: &str) -> Option<Front<'_>>
-    ensures { option_map front_told result ≡ fronts.include_in line.now }
+    ensures { option_map front_parsed result ≡ fronts.include_in line.now }
 {
     let included = behind_included(past_blanks(line))?;
-    let (file, start) = place_at_end(in_front_of_end(included)?)?;
+    let (file, start) = span_at_end(in_front_of_end(included)?)?;
     Some(Front {
         file,
         start,
@@ -107,23 +107,23 @@ fn in_front_of_end(text: &str) -> Option<&str>
     }
 }
 
-/// A place `FILE:LINE` or `FILE:LINE:COLUMN` at the end of a text.
-#[tactic(auto, unfolding(crate::specs::Fronts::place_at_end))]
-pub(crate) fn place_at_end(text: &str) -> Option<(&str, Spot)>
-    ensures { option_map (λ place. (place.0.now, place.1)) result ≡ fronts.place_at_end text.now }
+/// A span `FILE:LINE` or `FILE:LINE:COLUMN` at the end of a text.
+#[tactic(auto, unfolding(crate::specs::Fronts::span_at_end))]
+pub(crate) fn span_at_end(text: &str) -> Option<(&str, Location)>
+    ensures { option_map (λ span. (span.0.now, span.1)) result ≡ fronts.span_at_end text.now }
 {
     let (front, last) = number_at_end(text)?;
     let (file, start) = match number_at_end(front) {
         Some((file, line)) => (
             file,
-            Spot {
+            Location {
                 line,
                 column: Some(last),
             },
         ),
         None => (
             front,
-            Spot {
+            Location {
                 line: last,
                 column: None,
             },
@@ -148,14 +148,14 @@ fn number_at_end(text: &str) -> Option<(&str, usize)>
 /// A call in place of which the tool put what is called.
 #[tactic(auto, unfolding(crate::specs::Fronts::inlined_in))]
 fn inlined(line: &str) -> Option<Front<'_>>
-    ensures { option_map front_told result ≡ fronts.inlined_in line.now }
+    ensures { option_map front_parsed result ≡ fronts.inlined_in line.now }
 {
     let text = past_blanks(line);
     if !begins_with(text, "inlined from ") {
         return None;
     }
-    let (said, rest) = said_and_place(in_front_of_end(text)?)?;
-    let (file, start) = place_at_end(rest)?;
+    let (said, rest) = said_and_span(in_front_of_end(text)?)?;
+    let (file, start) = span_at_end(rest)?;
     Some(Front {
         file,
         start,
@@ -164,19 +164,19 @@ fn inlined(line: &str) -> Option<Front<'_>>
 }
 
 /// What stands in front of ` at` and the last word, and that word.
-#[tactic(auto, unfolding(crate::specs::Fronts::said_and_place))]
-fn said_and_place(text: &str) -> Option<(&str, &str)>
-    ensures { option_map (λ parts. (parts.0.now, parts.1.now)) result ≡ fronts.said_and_place text.now }
+#[tactic(auto, unfolding(crate::specs::Fronts::said_and_span))]
+fn said_and_span(text: &str) -> Option<(&str, &str)>
+    ensures { option_map (λ parts. (parts.0.now, parts.1.now)) result ≡ fronts.said_and_span text.now }
 {
     let (front, rest) = split_at_last(text, ' ')?;
     Some((in_front_of_text(front, " at")?, rest))
 }
 
-/// A place from where a template is required, or of which a constant is worked out: behind the first of
+/// A span from where a template is required, or of which a constant is worked out: behind the first of
 /// a line's colons at which it tells that.
 #[tactic(auto, unfolding(crate::specs::Fronts::context_in))]
 fn context(line: &str) -> Option<Front<'_>>
-    ensures { option_map front_told result ≡ fronts.context_in line.now }
+    ensures { option_map front_parsed result ≡ fronts.context_in line.now }
 {
     let mut from = 0usize;
     for turn in 0..COLONS {
@@ -189,12 +189,12 @@ fn context(line: &str) -> Option<Front<'_>>
     None
 }
 
-/// A place, and what is said of it behind three blanks.
+/// A span, and what is said of it behind three blanks.
 #[tactic(auto, unfolding(crate::specs::Fronts::context_behind))]
 fn context_behind<'a>(file: &'a str, text: &'a str) -> Option<Front<'a>>
-    ensures { option_map front_told result ≡ fronts.context_behind file.now text.now }
+    ensures { option_map front_parsed result ≡ fronts.context_behind file.now text.now }
 {
-    let (start, _, rest) = place(text)?;
+    let (start, _, rest) = span(text)?;
     let said = behind_text(rest, ":   ")?;
     if !says_how(said) || !is_flush(file) {
         return None;
@@ -206,7 +206,7 @@ fn context_behind<'a>(file: &'a str, text: &'a str) -> Option<Front<'a>>
     })
 }
 
-/// Whether a text says how the tool came to a place.
+/// Whether a text says how the tool came to a span.
 fn says_how(text: &str) -> bool
     ensures { result ≡ fronts.says_how text.now }
 {
@@ -216,7 +216,7 @@ fn says_how(text: &str) -> bool
         || begins_with(text, "instantiated from ")
 }
 
-/// Whether a line names what the tool was in, and no place, as `a.c: In function 'main':`. Such a line
+/// Whether a line names what the tool was in, and no span, as `a.c: In function 'main':`. Such a line
 /// stands in front of a diagnostic, also behind lines that `front_of` reads.
 #[tactic(auto, unfolding(crate::specs::Fronts::is_scope_line))]
 pub fn is_scope_line(line: &str) -> bool

@@ -6,26 +6,26 @@ ghost use Rattle.std.specs.List.{list_all};
 ghost use Rattle.std.specs.Option.{option_to_list};
 ghost use Rattle.serde_json.specs.Find.{as_array};
 ghost use Rattle.serde_json.specs.View.{items_view, view};
-ghost use Rattle.ariadne_parse.specs.Gcc.{event_note, event_places, event_notes, event_told, gcc_all, gcc_behind};
-ghost use Rattle.ariadne_parse.specs.Gcc.{event_place as place_of_event, event_text as text_of_event};
+ghost use Rattle.ariadne_parse.specs.Gcc.{event_note, event_spans, event_notes, event_parsed, gcc_all, gcc_behind};
+ghost use Rattle.ariadne_parse.specs.Gcc.{event_span as span_of_event, event_text as text_of_event};
 ghost use Rattle.ariadne_parse.specs.Gcc.{gcc_list, gcc_noted, gcc_read, has_column as is_in_column, last_with};
 ghost use Rattle.ariadne_parse.specs.Gcc.{is_away as is_away_from, is_caret_of as is_of_caret};
 ghost use Rattle.ariadne_parse.specs.Gcc.{is_column as is_same_column, is_elsewhere as is_elsewhere_than};
-ghost use Rattle.ariadne_parse.specs.Gcc.{is_label as is_said_there, is_part as is_part_of, is_spot as is_that_spot};
-ghost use Rattle.ariadne_parse.specs.Gcc.{location_places, note_beside, noted_place as place_noted, own_location};
+ghost use Rattle.ariadne_parse.specs.Gcc.{is_label as is_said_there, is_location as is_that_location, is_part as is_part_of};
+ghost use Rattle.ariadne_parse.specs.Gcc.{location_value_spans, note_beside, noted_span as span_noted, own_location_value};
 ghost use Rattle.ariadne_parse.specs.Gcc.{says_something as something_said, with_note_said, with_noted};
 ghost use Rattle.ariadne_parse.specs.GccFixes as fixes;
-ghost use Rattle.ariadne_parse.specs.ParsedLines.{is_gcc, is_gcc_list, tells_gcc};
-ghost use Rattle.ariadne_parse.specs.Members.{gcc_end, gcc_place, gcc_spot, gcc_spot_at, is_gcc_more, is_gcc_note};
+ghost use Rattle.ariadne_parse.specs.ParsedDiagnostics.{is_gcc, is_gcc_list, tells_gcc};
+ghost use Rattle.ariadne_parse.specs.Members.{gcc_end, gcc_location, gcc_location_at, gcc_span, is_gcc_more, is_gcc_note};
 ghost use Rattle.ariadne_parse.specs.Members.{items_in, list_at};
-ghost use Rattle.ariadne_parse.specs.Places.{seen};
+ghost use Rattle.ariadne_parse.specs.Spans.{seen};
 ghost use Rattle.ariadne_parse.specs.Proposed.{gcc_proposed, proposed};
 ghost use Rattle.ariadne_parse.specs.Read.{read};
 
-use crate::diagnostic::{Diagnostic, End, Place, Severity, Spot};
+use crate::diagnostic::{Diagnostic, End, Location, Severity, Span};
 use crate::fixes::{Covered, change_text, line_text, push_reasoned};
 use crate::fixits::proposal;
-use crate::heads::{is_same, place};
+use crate::heads::{is_same, span};
 use crate::json::{copied_text, has_words, items, number, severity as severity_of, text, words};
 use crate::pieces::{begins_with, in_front_of};
 use crate::unit::Unit;
@@ -76,13 +76,13 @@ fn is_message(value: &Value) -> bool
 }
 
 /// The diagnostics of these values, and of those that stand in them.
-pub(crate) fn told_by_gcc(alloc: Global, values: &[Value]) -> Result<Vec<Diagnostic>, AllocError>
+pub(crate) fn parsed_by_gcc(alloc: Global, values: &[Value]) -> Result<Vec<Diagnostic>, AllocError>
     ensures all { IfOk result (λ all. map read all.items ≡ gcc_list [] (items_view values.now)) }
     ensures some { IfOk result (λ all. 0 < length values.now → 0 < vec_len all) }
 {
     let mut all = Vec::new(alloc);
     for value in values {
-        push_told(alloc, &mut all, value)?;
+        push_parsed(alloc, &mut all, value)?;
         push_children(alloc, &mut all, value)?;
     }
     Ok(all)
@@ -96,21 +96,21 @@ fn push_children(alloc: Global, all: &mut Vec<Diagnostic>, value: &Value) -> Res
 {
     let children = items(value, "children");
     for child in children {
-        push_told(alloc, all, child)?;
+        push_parsed(alloc, all, child)?;
     }
     Ok(())
 }
 
 /// Adds a note to the diagnostic before it, and so one that goes on with that; what is neither, or has none
 /// before it, is a diagnostic more.
-fn push_told(alloc: Global, all: &mut Vec<Diagnostic>, value: &Value) -> Result<(), AllocError>
+fn push_parsed(alloc: Global, all: &mut Vec<Diagnostic>, value: &Value) -> Result<(), AllocError>
     ensures all { OnOk result (map read all.new.items ≡ gcc_behind (map read all.old.items) (view value.now)) }
     ensures some { OnOk result (0 < vec_len all.new) }
 {
     match all.pop() {
         Some(last) => push_behind(alloc, all, last, value),
         None => {
-            all.push(told_by_item(alloc, value)?)?;
+            all.push(parsed_by_item(alloc, value)?)?;
             Ok(())
         }
     }
@@ -133,7 +133,7 @@ fn push_behind(
         return Ok(());
     }
     all.push(last)?;
-    all.push(told_by_item(alloc, value)?)?;
+    all.push(parsed_by_item(alloc, value)?)?;
     Ok(())
 }
 
@@ -160,98 +160,107 @@ fn goes_on(value: &Value, severity: Severity) -> bool
 }
 
 /// The diagnostic of one value.
-fn told_by_item(alloc: Global, value: &Value) -> Result<Diagnostic, AllocError>
-    ensures { IfOk result (λ told. read told ≡ gcc_read (view value.now)) }
+fn parsed_by_item(alloc: Global, value: &Value) -> Result<Diagnostic, AllocError>
+    ensures { IfOk result (λ parsed. read parsed ≡ gcc_read (view value.now)) }
 {
-    let mut told = Diagnostic::new(alloc, severity_of(value, "kind"), words(value, "message"))?;
-    told.code = copied_text(alloc, value, "option")?;
-    push_locations(alloc, &mut told.places, items(value, "locations"))?;
-    push_events(alloc, &mut told, items(value, "path"))?;
+    let mut parsed = Diagnostic::new(alloc, severity_of(value, "kind"), words(value, "message"))?;
+    parsed.code = copied_text(alloc, value, "option")?;
+    push_location_values(alloc, &mut parsed.spans, items(value, "locations"))?;
+    push_events(alloc, &mut parsed, items(value, "path"))?;
     let fixits = items(value, "fixits");
-    told.helps = changes_in(alloc, fixits)?;
-    push_proposal(alloc, &mut told, 0, "", fixits)?;
-    Ok(told)
+    parsed.helps = changes_in(alloc, fixits)?;
+    push_proposal(alloc, &mut parsed, 0, "", fixits)?;
+    Ok(parsed)
 }
 
 /// Adds what fix-its propose, which the helps from the one with this number on say.
 fn push_proposal(
     alloc: Global,
-    told: &mut Diagnostic,
+    parsed: &mut Diagnostic,
     first: usize,
     why: &str,
     fixits: &[Value],
 ) -> Result<(), AllocError>
-    ensures proposals { OnOk result (map proposed told.new.proposals.items
-        ≡ map proposed told.old.proposals.items
-        ++ option_to_list (gcc_proposed (first, vec_len told.old.helps) why.now (items_view fixits.now))) }
-    ensures others { OnOk result (told.new ≡ record told.old { proposals = told.new.proposals }) }
+    ensures proposals { OnOk result (map proposed parsed.new.proposals.items
+        ≡ map proposed parsed.old.proposals.items
+        ++ option_to_list (gcc_proposed (first, vec_len parsed.old.helps) why.now (items_view fixits.now))) }
+    ensures others { OnOk result (parsed.new ≡ record parsed.old { proposals = parsed.new.proposals }) }
 {
-    if let Some(it) = proposal(alloc, first..told.helps.len(), why, fixits)? {
-        told.proposals.push(it)?;
+    if let Some(it) = proposal(alloc, first..parsed.helps.len(), why, fixits)? {
+        parsed.proposals.push(it)?;
     }
     Ok(())
 }
 
-/// Adds the places of a diagnostic's locations: it is about the first.
-fn push_locations(
+/// Adds the spans of a diagnostic's locations: it is about the first.
+fn push_location_values(
     alloc: Global,
-    places: &mut Vec<Place>,
-    locations: &[Value],
+    spans: &mut Vec<Span>,
+    location_values: &[Value],
 ) -> Result<(), AllocError>
-    ensures { OnOk result (map seen places.new.items
-        ≡ map seen places.old.items ++ location_places true (items_view locations.now)) }
+    ensures { OnOk result (map seen spans.new.items
+        ≡ map seen spans.old.items ++ location_value_spans true (items_view location_values.now)) }
 {
     let mut is_first = true;
-    for location in locations {
-        if let Some(place) = own_place(alloc, location, is_first)? {
-            places.push(place)?;
+    for location_value in location_values {
+        if let Some(span) = own_span(alloc, location_value, is_first)? {
+            spans.push(span)?;
         }
         is_first = false;
     }
     Ok(())
 }
 
-/// The place of one of a diagnostic's locations, if it is the first or says something.
-fn own_place(alloc: Global, location: &Value, is_first: bool) -> Result<Option<Place>, AllocError>
-    ensures { IfOk result (λ place. option_map seen place ≡ own_location is_first (view location.now)) }
+/// The span of one of a diagnostic's locations, if it is the first or says something.
+fn own_span(
+    alloc: Global,
+    location_value: &Value,
+    is_first: bool,
+) -> Result<Option<Span>, AllocError>
+    ensures { IfOk result (λ span. option_map seen span ≡ own_location_value is_first (view location_value.now)) }
 {
-    if is_first || says_something(location) {
-        location_place(alloc, location, words(location, "label"), is_first)
+    if is_first || says_something(location_value) {
+        location_value_span(
+            alloc,
+            location_value,
+            words(location_value, "label"),
+            is_first,
+        )
     } else {
         Ok(None)
     }
 }
 
 /// Whether a location says something: it has a label, or a column. gcc gives the end of a file none.
-fn says_something(location: &Value) -> bool
-    ensures { result ≡ something_said (view location.now) }
+fn says_something(location_value: &Value) -> bool
+    ensures { result ≡ something_said (view location_value.now) }
 {
-    text(location, "label").is_some() || has_column(spot_of(location, "caret"))
+    text(location_value, "label").is_some() || has_column(location_of(location_value, "caret"))
 }
 
-/// Whether a spot is there, and has a column.
-fn has_column(spot: Option<Spot>) -> bool
-    ensures { result ≡ is_in_column spot }
+/// Whether a location is there, and has a column.
+fn has_column(location: Option<Location>) -> bool
+    ensures { result ≡ is_in_column location }
 {
-    match spot {
-        Some(spot) => spot.column.is_some(),
+    match location {
+        Some(location) => location.column.is_some(),
         None => false,
     }
 }
 
-/// Adds the places of the events that lead to a diagnostic of the analyzer, in their order. Of one without a place
+/// Adds the spans of the events that lead to a diagnostic of the analyzer, in their order. Of one without a span
 /// a note says the same.
-fn push_events(alloc: Global, told: &mut Diagnostic, events: &[Value]) -> Result<(), AllocError>
-    ensures places { OnOk result (map seen told.new.places.items
-        ≡ map seen told.old.places.items ++ event_places 1 (items_view events.now)) }
-    ensures notes { OnOk result (map string_bytes told.new.notes.items
-        ≡ map string_bytes told.old.notes.items ++ event_notes 1 (items_view events.now)) }
-    ensures others { OnOk result (told.new
-        ≡ record told.old { places = told.new.places; notes = told.new.notes }) }
+fn push_events(alloc: Global, parsed: &mut Diagnostic, events: &[Value]) -> Result<(), AllocError>
+    ensures spans { OnOk result (map seen parsed.new.spans.items
+        ≡ map seen parsed.old.spans.items ++ event_spans 1 (items_view events.now)) }
+    ensures notes { OnOk result (map string_bytes parsed.new.notes.items
+        ≡ map string_bytes parsed.old.notes.items ++ event_notes 1 (items_view events.now)) }
+    ensures others { OnOk result (parsed.new
+        ≡ record parsed.old { spans = parsed.new.spans; notes = parsed.new.notes }) }
 {
     let mut number = 1;
     for event in events {
-        push_event(alloc, told, event, number)?;
+        push_event(alloc, parsed, event, number)?;
         number += 1;
     }
     Ok(())
@@ -260,24 +269,24 @@ fn push_events(alloc: Global, told: &mut Diagnostic, events: &[Value]) -> Result
 /// Adds an event, which has this number.
 fn push_event(
     alloc: Global,
-    told: &mut Diagnostic,
+    parsed: &mut Diagnostic,
     event: &Value,
     number: usize,
 ) -> Result<(), AllocError>
-    ensures places { OnOk result (map seen told.new.places.items
-        ≡ map seen told.old.places.items ++ option_to_list (event_told number (view event.now))) }
-    ensures notes { OnOk result (map string_bytes told.new.notes.items
-        ≡ map string_bytes told.old.notes.items ++ option_to_list (event_note number (view event.now))) }
-    ensures others { OnOk result (told.new
-        ≡ record told.old { places = told.new.places; notes = told.new.notes }) }
+    ensures spans { OnOk result (map seen parsed.new.spans.items
+        ≡ map seen parsed.old.spans.items ++ option_to_list (event_parsed number (view event.now))) }
+    ensures notes { OnOk result (map string_bytes parsed.new.notes.items
+        ≡ map string_bytes parsed.old.notes.items ++ option_to_list (event_note number (view event.now))) }
+    ensures others { OnOk result (parsed.new
+        ≡ record parsed.old { spans = parsed.new.spans; notes = parsed.new.notes }) }
 {
     let said = event_text(alloc, number, event)?;
-    match event_place(alloc, event)? {
-        Some(mut place) => {
-            place.text = said;
-            told.places.push(place)?;
+    match event_span(alloc, event)? {
+        Some(mut span) => {
+            span.text = said;
+            parsed.spans.push(span)?;
         }
-        None => told.notes.push(said)?,
+        None => parsed.notes.push(said)?,
     }
     Ok(())
 }
@@ -291,138 +300,138 @@ fn event_text(alloc: Global, number: usize, event: &Value) -> Result<String, All
 }
 
 /// Where an event is, if it says so.
-fn event_place(alloc: Global, event: &Value) -> Result<Option<Place>, AllocError>
-    ensures { IfOk result (λ place. option_map seen place ≡ place_of_event (view event.now)) }
+fn event_span(alloc: Global, event: &Value) -> Result<Option<Span>, AllocError>
+    ensures { IfOk result (λ span. option_map seen span ≡ span_of_event (view event.now)) }
 {
-    let Some(location) = event.get("location") else {
+    let Some(location_value) = event.get("location") else {
         return Ok(None);
     };
-    let (Some(at), Some(file)) = (spot(location), text(location, "file")) else {
+    let (Some(at), Some(file)) = (location(location_value), text(location_value, "file")) else {
         return Ok(None);
     };
-    let mut place = place(alloc, file, at, End::OfWord, Unit::Byte)?;
-    place.is_past_mark = true;
-    Ok(Some(place))
+    let mut span = span(alloc, file, at, End::OfWord, Unit::Byte)?;
+    span.is_past_mark = true;
+    Ok(Some(span))
 }
 
-/// Adds a note: as the label of its first place, if that is elsewhere and has none of its own. What it says is to
+/// Adds a note: as the label of its first span, if that is elsewhere and has none of its own. What it says is to
 /// be changed is a help, which says why, as the note does.
-fn push_note(alloc: Global, told: &mut Diagnostic, value: &Value) -> Result<(), AllocError>
-    ensures { OnOk result (read told.new ≡ gcc_noted (read told.old) (view value.now)) }
+fn push_note(alloc: Global, parsed: &mut Diagnostic, value: &Value) -> Result<(), AllocError>
+    ensures { OnOk result (read parsed.new ≡ gcc_noted (read parsed.old) (view value.now)) }
 {
     let message = words(value, "message").trim_start();
-    push_noted(alloc, told, items(value, "locations"), message)?;
+    push_noted(alloc, parsed, items(value, "locations"), message)?;
     let fixits = items(value, "fixits");
-    let first = told.helps.len();
+    let first = parsed.helps.len();
     let changes = changes_in(alloc, fixits)?;
-    push_reasoned(alloc, &mut told.helps, message, changes)?;
-    push_proposal(alloc, told, first, message, fixits)
+    push_reasoned(alloc, &mut parsed.helps, message, changes)?;
+    push_proposal(alloc, parsed, first, message, fixits)
 }
 
-/// Adds what a note says, and its places.
+/// Adds what a note says, and its spans.
 fn push_noted(
     alloc: Global,
-    told: &mut Diagnostic,
-    locations: &[Value],
+    parsed: &mut Diagnostic,
+    location_values: &[Value],
     message: &str,
 ) -> Result<(), AllocError>
-    ensures places { OnOk result (map seen told.new.places.items ≡ with_note_said
-        (map seen told.old.places.items) message.now (items_view locations.now)) }
-    ensures notes { OnOk result (map string_bytes told.new.notes.items ≡ map string_bytes told.old.notes.items
-        ++ note_beside (map seen told.old.places.items) message.now (items_view locations.now)) }
-    ensures others { OnOk result (told.new
-        ≡ record told.old { places = told.new.places; notes = told.new.notes }) }
+    ensures spans { OnOk result (map seen parsed.new.spans.items ≡ with_note_said
+        (map seen parsed.old.spans.items) message.now (items_view location_values.now)) }
+    ensures notes { OnOk result (map string_bytes parsed.new.notes.items ≡ map string_bytes parsed.old.notes.items
+        ++ note_beside (map seen parsed.old.spans.items) message.now (items_view location_values.now)) }
+    ensures others { OnOk result (parsed.new
+        ≡ record parsed.old { spans = parsed.new.spans; notes = parsed.new.notes }) }
 {
-    if is_label(told.places.as_slice(), locations) {
-        return push_noted_places(alloc, &mut told.places, locations, message);
+    if is_label(parsed.spans.as_slice(), location_values) {
+        return push_noted_spans(alloc, &mut parsed.spans, location_values, message);
     }
-    told.notes.push(String::from_str(alloc, message)?)?;
-    push_noted_places(alloc, &mut told.places, locations, "")
+    parsed.notes.push(String::from_str(alloc, message)?)?;
+    push_noted_spans(alloc, &mut parsed.spans, location_values, "")
 }
 
 /// Whether the first of a note's locations says the note: it is elsewhere than where the diagnostic points, and
 /// has no label of its own.
-fn is_label(places: &[Place], locations: &[Value]) -> bool
-    ensures { result ≡ is_said_there (map seen places.now) (items_view locations.now) }
+fn is_label(spans: &[Span], location_values: &[Value]) -> bool
+    ensures { result ≡ is_said_there (map seen spans.now) (items_view location_values.now) }
 {
-    match locations.first() {
-        Some(first) => is_elsewhere(places, first) && text(first, "label").is_none(),
+    match location_values.first() {
+        Some(first) => is_elsewhere(spans, first) && text(first, "label").is_none(),
         None => false,
     }
 }
 
-/// Adds those places of a note that say something, or are elsewhere than where the diagnostic points, which the
-/// first of its places is. The first says this, if it has no label.
-fn push_noted_places(
+/// Adds those spans of a note that say something, or are elsewhere than where the diagnostic points, which the
+/// first of its spans is. The first says this, if it has no label.
+fn push_noted_spans(
     alloc: Global,
-    places: &mut Vec<Place>,
-    locations: &[Value],
+    spans: &mut Vec<Span>,
+    location_values: &[Value],
     first_text: &str,
 ) -> Result<(), AllocError>
-    ensures { OnOk result (map seen places.new.items
-        ≡ with_noted (map seen places.old.items) first_text.now (items_view locations.now)) }
+    ensures { OnOk result (map seen spans.new.items
+        ≡ with_noted (map seen spans.old.items) first_text.now (items_view location_values.now)) }
 {
     let mut own_text = first_text;
-    for location in locations {
-        if let Some(place) = noted_place(alloc, places.as_slice(), location, own_text)? {
-            places.push(place)?;
+    for location_value in location_values {
+        if let Some(span) = noted_span(alloc, spans.as_slice(), location_value, own_text)? {
+            spans.push(span)?;
         }
         own_text = "";
     }
     Ok(())
 }
 
-/// The place of a note's location, if it says something, or is elsewhere than where the diagnostic with these
-/// places points. It says this, if it has no label.
-fn noted_place(
+/// The span of a note's location, if it says something, or is elsewhere than where the diagnostic with these
+/// spans points. It says this, if it has no label.
+fn noted_span(
     alloc: Global,
-    places: &[Place],
-    location: &Value,
+    spans: &[Span],
+    location_value: &Value,
     own_text: &str,
-) -> Result<Option<Place>, AllocError>
-    ensures { IfOk result (λ place. option_map seen place
-        ≡ place_noted (map seen places.now) own_text.now (view location.now)) }
+) -> Result<Option<Span>, AllocError>
+    ensures { IfOk result (λ span. option_map seen span
+        ≡ span_noted (map seen spans.now) own_text.now (view location_value.now)) }
 {
-    let said = text(location, "label").unwrap_or(own_text);
-    if said.is_empty() && !is_elsewhere(places, location) {
+    let said = text(location_value, "label").unwrap_or(own_text);
+    if said.is_empty() && !is_elsewhere(spans, location_value) {
         return Ok(None);
     }
-    location_place(alloc, location, said, false)
+    location_value_span(alloc, location_value, said, false)
 }
 
-/// Whether a location is elsewhere than where the diagnostic with these places points.
-fn is_elsewhere(places: &[Place], location: &Value) -> bool
-    ensures { result ≡ is_elsewhere_than (map seen places.now) (view location.now) }
+/// Whether a location is elsewhere than where the diagnostic with these spans points.
+fn is_elsewhere(spans: &[Span], location_value: &Value) -> bool
+    ensures { result ≡ is_elsewhere_than (map seen spans.now) (view location_value.now) }
 {
-    match location.get("caret") {
-        Some(caret) => is_away(places, caret),
+    match location_value.get("caret") {
+        Some(caret) => is_away(spans, caret),
         None => false,
     }
 }
 
 /// Whether a caret is elsewhere.
-fn is_away(places: &[Place], caret: &Value) -> bool
-    ensures { result ≡ is_away_from (map seen places.now) (view caret.now) }
+fn is_away(spans: &[Span], caret: &Value) -> bool
+    ensures { result ≡ is_away_from (map seen spans.now) (view caret.now) }
 {
-    match places.first() {
+    match spans.first() {
         Some(first) => !is_caret_of(first, caret),
         None => true,
     }
 }
 
-/// Whether a caret is where a place has its own.
-fn is_caret_of(place: &Place, caret: &Value) -> bool
-    ensures { result ≡ is_of_caret (seen place.now) (view caret.now) }
+/// Whether a caret is where a span has its own.
+fn is_caret_of(span: &Span, caret: &Value) -> bool
+    ensures { result ≡ is_of_caret (seen span.now) (view caret.now) }
 {
-    is_spot(place.caret, spot(caret)) && has_words(caret, "file", place.file.as_str())
+    is_location(span.caret, location(caret)) && has_words(caret, "file", span.file.as_str())
 }
 
-/// Whether a spot is this one.
-fn is_spot(at: Spot, found: Option<Spot>) -> bool
-    ensures { result ≡ is_that_spot at found }
+/// Whether a location is this one.
+fn is_location(at: Location, found: Option<Location>) -> bool
+    ensures { result ≡ is_that_location at found }
 {
     match found {
-        Some(spot) => spot.line == at.line && is_column(spot.column, at.column),
+        Some(location) => location.line == at.line && is_column(location.column, at.column),
         None => false,
     }
 }
@@ -438,62 +447,65 @@ fn is_column(one: Option<usize>, other: Option<usize>) -> bool
     }
 }
 
-/// A spot, whose column counts bytes.
-fn spot(value: &Value) -> Option<Spot>
-    ensures { result ≡ gcc_spot (view value.now) }
+/// A location, whose column counts bytes.
+fn location(value: &Value) -> Option<Location>
+    ensures { result ≡ gcc_location (view value.now) }
 {
     let column = match number(value, "byte-column") {
         Some(column) => Some(column),
         None => number(value, "column"),
     };
-    Some(Spot {
+    Some(Location {
         line: number(value, "line")?,
         column,
     })
 }
 
-/// A spot that is a member of a location.
-pub(crate) fn spot_of(location: &Value, name: &str) -> Option<Spot>
-    ensures { result ≡ gcc_spot_at name.now (view location.now) }
+/// A location that is a member of a location.
+pub(crate) fn location_of(location_value: &Value, name: &str) -> Option<Location>
+    ensures { result ≡ gcc_location_at name.now (view location_value.now) }
 {
-    spot(location.get(name)?)
+    location(location_value.get(name)?)
 }
 
 /// Where a location ends: behind the character at its finish. gcc leaves that out where it is the caret;
 /// where it leaves the start out too, the location is one character, and the word there is meant.
-fn end_of(location: &Value, caret: Spot) -> End
-    ensures { result ≡ gcc_end caret (view location.now) }
+fn end_of(location_value: &Value, caret: Location) -> End
+    ensures { result ≡ gcc_end caret (view location_value.now) }
 {
-    match (spot_of(location, "finish"), location.get("start")) {
+    match (
+        location_of(location_value, "finish"),
+        location_value.get("start"),
+    ) {
         (Some(finish), _) => End::Behind(finish),
         (None, Some(_)) => End::Behind(caret),
         (None, None) => End::OfWord,
     }
 }
 
-/// The place of a location, and what is said of it. One without a caret or its line has none.
-fn location_place(
+/// The span of a location, and what is said of it. One without a caret or its line has none.
+fn location_value_span(
     alloc: Global,
-    location: &Value,
+    location_value: &Value,
     said: &str,
     is_primary: bool,
-) -> Result<Option<Place>, AllocError>
-    ensures { IfOk result (λ place. option_map seen place ≡ gcc_place said.now is_primary (view location.now)) }
+) -> Result<Option<Span>, AllocError>
+    ensures { IfOk result (λ span. option_map seen span ≡ gcc_span said.now is_primary (view location_value.now)) }
 {
-    let Some(caret) = location.get("caret") else {
+    let Some(caret) = location_value.get("caret") else {
         return Ok(None);
     };
-    let Some(point) = spot(caret) else {
+    let Some(point) = location(caret) else {
         return Ok(None);
     };
-    let start = spot_of(location, "start").unwrap_or(point);
-    let end = end_of(location, point);
-    let mut place = place(alloc, words(caret, "file"), start, end, Unit::Byte)?;
-    place.caret = point;
-    place.is_past_mark = true;
-    place.text = String::from_str(alloc, said)?;
-    place.is_primary = is_primary;
-    Ok(Some(place))
+    let start = location_of(location_value, "start").unwrap_or(point);
+    let end = end_of(location_value, point);
+    let mut span = span(alloc, words(caret, "file"), start, end, Unit::Byte)?;
+    span.caret = point;
+    span.is_past_mark = true;
+    span.text = String::from_str(alloc, said)?;
+    span.is_primary = is_primary;
+    Ok(Some(span))
 }
 
 /// What these fixes change, of those that say where, and what to put there.
@@ -515,7 +527,7 @@ fn changes_in(alloc: Global, all: &[Value]) -> Result<Vec<String>, AllocError>
 fn change_of(alloc: Global, fix: &Value) -> Result<Option<String>, AllocError>
     ensures { IfOk result (λ change. option_map string_bytes change ≡ fixes.change_of (view fix.now)) }
 {
-    let Some(at) = spot_of(fix, "start") else {
+    let Some(at) = location_of(fix, "start") else {
         return Ok(None);
     };
     let Some(put_in) = text(fix, "string") else {
@@ -525,7 +537,7 @@ fn change_of(alloc: Global, fix: &Value) -> Result<Option<String>, AllocError>
 }
 
 /// What a help says that puts a text in: a line, where the text is one.
-fn put_text(alloc: Global, fix: &Value, at: Spot, put_in: &str) -> Result<String, AllocError>
+fn put_text(alloc: Global, fix: &Value, at: Location, put_in: &str) -> Result<String, AllocError>
     ensures { IfOk result (λ text.
         string_bytes text ≡ fixes.put_words (view fix.now) at put_in.now) }
 {
@@ -536,7 +548,7 @@ fn put_text(alloc: Global, fix: &Value, at: Spot, put_in: &str) -> Result<String
 }
 
 /// The line that a fix puts in, if its text ends its line, and it takes the place of nothing.
-fn line_put_in<'t>(fix: &Value, at: Spot, put_in: &'t str) -> Option<&'t str>
+fn line_put_in<'t>(fix: &Value, at: Location, put_in: &'t str) -> Option<&'t str>
     ensures { option_map (λ line. line.now) result ≡ fixes.line_in (view fix.now) at put_in.now }
 {
     if is_in_front(fix, at) {
@@ -547,10 +559,10 @@ fn line_put_in<'t>(fix: &Value, at: Spot, put_in: &'t str) -> Option<&'t str>
 }
 
 /// Whether a fix takes the place of nothing, in front of a line.
-fn is_in_front(fix: &Value, at: Spot) -> bool
+fn is_in_front(fix: &Value, at: Location) -> bool
     ensures { result ≡ fixes.is_in_front (view fix.now) at }
 {
-    match spot_of(fix, "next") {
+    match location_of(fix, "next") {
         Some(next) => is_same(at, next) && at.column.unwrap_or(0) == 1,
         None => false,
     }

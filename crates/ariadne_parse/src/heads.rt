@@ -1,34 +1,34 @@
-//! The diagnostic of a line of text, and its places.
+//! The diagnostic of a line of text, and its spans.
 
 ghost use Rattle.std.specs.Prelude.{◌≡◌, ◌++◌, map, option_map, string_bytes, IfOk, OnOk};
 ghost use Rattle.std.specs.Prelude.{None};
-ghost use Rattle.ariadne_parse.specs.Places.{counted_place as place_counted, is_same_spot as is_of_same_spot, named, place_of, seen};
-ghost use Rattle.ariadne_parse.specs.ParsedLines.{is_own_range};
-ghost use Rattle.ariadne_parse.specs.ParsedLines.{other_places, own_place_of, own_range_of};
-ghost use Rattle.ariadne_parse.specs.ParsedLines.{IsOfHead};
-ghost use Rattle.ariadne_parse.specs.ToldLines.{head_told};
+ghost use Rattle.ariadne_parse.specs.Spans.{counted_span as span_counted, is_same_location as is_of_same_location, named, seen, span_of};
+ghost use Rattle.ariadne_parse.specs.ParsedDiagnostics.{is_own_range};
+ghost use Rattle.ariadne_parse.specs.ParsedDiagnostics.{other_spans, own_range_of, own_span_of};
+ghost use Rattle.ariadne_parse.specs.ParsedDiagnostics.{IsOfHead};
+ghost use Rattle.ariadne_parse.specs.ParsedLines.{head_parsed};
 
 use crate::counting::Counting;
-use crate::diagnostic::{Diagnostic, End, Look, OwnKind, Place, Spot};
-use crate::lines::ToldLine;
-use crate::spots::{RANGES, is_among, range};
+use crate::diagnostic::{Diagnostic, End, Location, Look, OwnKind, Span};
+use crate::lines::ParsedLine;
+use crate::locations::{RANGES, is_among, range};
 use crate::unit::Unit;
 use std::alloc::{AllocError, Global};
 
 /// The diagnostic of a line whose columns count so.
-pub(crate) fn told_by_line(
+pub(crate) fn parsed_by_line(
     alloc: Global,
-    it: &ToldLine<'_>,
+    it: &ParsedLine<'_>,
     counting: Counting,
 ) -> Result<Diagnostic, AllocError>
-    ensures { IfOk result (λ told. IsOfHead counting (head_told it.now) told) }
+    ensures { IfOk result (λ parsed. IsOfHead counting (head_parsed it.now) parsed) }
 {
-    let mut told = Diagnostic::new(alloc, it.kind.severity, it.message)?;
-    told.own_kind = own_kind(alloc, it.kind.name)?;
-    told.code = copied(alloc, it.kind.code)?;
-    told.places.push(own_place(alloc, it, counting)?)?;
-    push_ranges(alloc, &mut told.places, it, counting)?;
-    Ok(told)
+    let mut parsed = Diagnostic::new(alloc, it.kind.severity, it.message)?;
+    parsed.own_kind = own_kind(alloc, it.kind.name)?;
+    parsed.code = copied(alloc, it.kind.code)?;
+    parsed.spans.push(own_span(alloc, it, counting)?)?;
+    push_ranges(alloc, &mut parsed.spans, it, counting)?;
+    Ok(parsed)
 }
 
 /// A kind of this name, in the colour of its severity, if there is a name.
@@ -52,50 +52,50 @@ pub(crate) fn copied(alloc: Global, text: Option<&str>) -> Result<Option<String>
     }
 }
 
-/// The place that a line points at: the range that has it, up to the end that the line names, or the
+/// The span that a line points at: the range that has it, up to the end that the line names, or the
 /// word there.
-fn own_place(alloc: Global, it: &ToldLine<'_>, counting: Counting) -> Result<Place, AllocError>
-    ensures { IfOk result (λ place. seen place ≡ own_place_of (head_told it.now) counting) }
+fn own_span(alloc: Global, it: &ParsedLine<'_>, counting: Counting) -> Result<Span, AllocError>
+    ensures { IfOk result (λ span. seen span ≡ own_span_of (head_parsed it.now) counting) }
 {
     let (start, end) = match (own_range(it), it.end) {
         (Some((start, end)), _) => (start, End::Before(end)),
         (None, Some(end)) => (it.start, End::Behind(end)),
         (None, None) => (it.start, End::OfWord),
     };
-    let mut place = counted_place(alloc, it.file, start, end, counting)?;
-    place.caret = counting.spot(it.start);
-    place.is_primary = true;
-    Ok(place)
+    let mut span = counted_span(alloc, it.file, start, end, counting)?;
+    span.caret = counting.location(it.start);
+    span.is_primary = true;
+    Ok(span)
 }
 
-/// A place of a file, of which nothing is said, between spots whose columns count so.
-fn counted_place(
+/// A span of a file, of which nothing is said, between locations whose columns count so.
+fn counted_span(
     alloc: Global,
     file: &str,
-    start: Spot,
+    start: Location,
     end: End,
     counting: Counting,
-) -> Result<Place, AllocError>
-    ensures { IfOk result (λ place. seen place ≡ place_counted file.now start end counting) }
+) -> Result<Span, AllocError>
+    ensures { IfOk result (λ span. seen span ≡ span_counted file.now start end counting) }
 {
-    place(
+    span(
         alloc,
         file,
-        counting.spot(start),
+        counting.location(start),
         counting.end(end),
         counting.unit,
     )
 }
 
-/// Adds the ranges of a line that are not its own place.
+/// Adds the ranges of a line that are not its own span.
 fn push_ranges(
     alloc: Global,
-    places: &mut Vec<Place>,
-    it: &ToldLine<'_>,
+    spans: &mut Vec<Span>,
+    it: &ParsedLine<'_>,
     counting: Counting,
 ) -> Result<(), AllocError>
-    ensures { OnOk result (map seen places.new.items
-        ≡ map seen places.old.items ++ other_places (head_told it.now) counting) }
+    ensures { OnOk result (map seen spans.new.items
+        ≡ map seen spans.old.items ++ other_spans (head_parsed it.now) counting) }
 {
     let own = own_range(it);
     let mut rest = it.ranges;
@@ -104,8 +104,8 @@ fn push_ranges(
             break;
         };
         if !is_own(own, start, end) {
-            let place = counted_place(alloc, it.file, start, End::Before(end), counting)?;
-            places.push(place)?;
+            let span = counted_span(alloc, it.file, start, End::Before(end), counting)?;
+            spans.push(span)?;
         }
         rest = behind;
     }
@@ -113,7 +113,7 @@ fn push_ranges(
 }
 
 /// Whether a range is a line's own.
-fn is_own(own: Option<(Spot, Spot)>, start: Spot, end: Spot) -> bool
+fn is_own(own: Option<(Location, Location)>, start: Location, end: Location) -> bool
     ensures { result ≡ is_own_range own (start, end) }
 {
     match own {
@@ -122,24 +122,24 @@ fn is_own(own: Option<(Spot, Spot)>, start: Spot, end: Spot) -> bool
     }
 }
 
-/// Whether two spots are the same.
-pub(crate) fn is_same(a: Spot, b: Spot) -> bool
-    ensures { result ≡ is_of_same_spot a b }
+/// Whether two locations are the same.
+pub(crate) fn is_same(a: Location, b: Location) -> bool
+    ensures { result ≡ is_of_same_location a b }
 {
     a.line == b.line && a.column.unwrap_or(0) == b.column.unwrap_or(0)
 }
 
-/// A place of a file, of which nothing is said.
-pub fn place(
+/// A span of a file, of which nothing is said.
+pub fn span(
     alloc: Global,
     file: &str,
-    start: Spot,
+    start: Location,
     end: End,
     unit: Unit,
-) -> Result<Place, AllocError>
-    ensures { IfOk result (λ place. seen place ≡ place_of file.now start end unit) }
+) -> Result<Span, AllocError>
+    ensures { IfOk result (λ span. seen span ≡ span_of file.now start end unit) }
 {
-    Ok(Place {
+    Ok(Span {
         file: String::from_str(alloc, file)?,
         caret: start,
         start,
@@ -153,9 +153,9 @@ pub fn place(
     })
 }
 
-/// The first range that has the line's own place in it.
-fn own_range(it: &ToldLine<'_>) -> Option<(Spot, Spot)>
-    ensures { result ≡ own_range_of (head_told it.now) }
+/// The first range that has the line's own span in it.
+fn own_range(it: &ParsedLine<'_>) -> Option<(Location, Location)>
+    ensures { result ≡ own_range_of (head_parsed it.now) }
 {
     let mut rest = it.ranges;
     for turn in 0..RANGES {

@@ -7,15 +7,15 @@ ghost use Rattle.std.specs.List.{list_all, prefix_len};
 ghost use Rattle.std.specs.Option.{unwrap_or};
 ghost use Rattle.ariadne_parse.specs.Kinds as kinds;
 ghost use Rattle.ariadne_parse.specs.TextPieces as pieces;
-ghost use Rattle.ariadne_parse.specs.ToldLines.{kind_told};
+ghost use Rattle.ariadne_parse.specs.ParsedLines.{kind_parsed};
 
 use crate::diagnostic::Severity;
 use crate::names::{is_named, is_own_name};
 use crate::pieces::{begins_with, behind, in_front_of, split_at_last, split_once};
 
-/// What the place of a kind tells, in pieces of the line.
+/// What the span of a kind tells, in pieces of the line.
 #[derive(Clone, Copy)]
-pub(crate) struct ToldKind<'a> {
+pub(crate) struct ParsedKind<'a> {
     /// How bad the diagnostic is.
     pub severity: Severity,
     /// Its word, where that says more than the severity.
@@ -34,8 +34,8 @@ pub(crate) struct ToldKind<'a> {
 
 /// What is sure to be a kind, and the message behind it.
 #[tactic(auto, unfolding(crate::specs::Kinds::sure_kind_in))]
-pub(crate) fn sure_kind(said: &str) -> Option<(ToldKind<'_>, &str)>
-    ensures { option_map (λ found. (kind_told found.0, found.1.now)) result ≡ kinds.sure_kind_in said.now }
+pub(crate) fn sure_kind(said: &str) -> Option<(ParsedKind<'_>, &str)>
+    ensures { option_map (λ found. (kind_parsed found.0, found.1.now)) result ≡ kinds.sure_kind_in said.now }
 {
     if let Some(found) = kind_at_colon(said) {
         return Some(found);
@@ -51,8 +51,8 @@ pub(crate) fn sure_kind(said: &str) -> Option<(ToldKind<'_>, &str)>
 
 /// A kind in front of the first colon, which a blank follows, and the message behind it.
 #[tactic(auto, unfolding(crate::specs::Kinds::kind_at_colon))]
-fn kind_at_colon(said: &str) -> Option<(ToldKind<'_>, &str)>
-    ensures { option_map (λ found. (kind_told found.0, found.1.now)) result ≡ kinds.kind_at_colon said.now }
+fn kind_at_colon(said: &str) -> Option<(ParsedKind<'_>, &str)>
+    ensures { option_map (λ found. (kind_parsed found.0, found.1.now)) result ≡ kinds.kind_at_colon said.now }
 {
     let (front, rest) = split_once(said, ':')?;
     let kind = kind_in_front(front)?;
@@ -61,8 +61,8 @@ fn kind_at_colon(said: &str) -> Option<(ToldKind<'_>, &str)>
 
 /// The kind that a text is: a known one, or a code.
 #[tactic(auto, unfolding(crate::specs::Kinds::kind_in_front))]
-fn kind_in_front(text: &str) -> Option<ToldKind<'_>>
-    ensures { option_map kind_told result ≡ kinds.kind_in_front text.now }
+fn kind_in_front(text: &str) -> Option<ParsedKind<'_>>
+    ensures { option_map kind_parsed result ≡ kinds.kind_in_front text.now }
 {
     match known_kind(text) {
         Some(kind) => Some(kind),
@@ -72,10 +72,10 @@ fn kind_in_front(text: &str) -> Option<ToldKind<'_>>
 
 /// A kind in brackets, behind which a colon may stand, and the message behind it.
 #[tactic(auto, unfolding(crate::specs::Kinds::kind_in_brackets))]
-fn kind_in_brackets(said: &str, opened: char, closed: char) -> Option<(ToldKind<'_>, &str)>
+fn kind_in_brackets(said: &str, opened: char, closed: char) -> Option<(ParsedKind<'_>, &str)>
     requires opened { opened < 128 }
     requires closed { closed < 128 }
-    ensures { option_map (λ found. (kind_told found.0, found.1.now)) result
+    ensures { option_map (λ found. (kind_parsed found.0, found.1.now)) result
         ≡ kinds.kind_in_brackets opened closed said.now }
 {
     let (inside, rest) = split_once(behind(said, opened)?, closed)?;
@@ -96,8 +96,8 @@ fn past_colon(text: &str) -> &str
 /// The kind that a text in brackets is: a known one, or a code, behind which more may stand in
 /// parentheses, as in pylint's `[C0303(trailing-whitespace), ]`.
 #[tactic(auto, unfolding(crate::specs::Kinds::kind_inside))]
-fn kind_inside(text: &str) -> Option<ToldKind<'_>>
-    ensures { option_map kind_told result ≡ kinds.kind_inside text.now }
+fn kind_inside(text: &str) -> Option<ParsedKind<'_>>
+    ensures { option_map kind_parsed result ≡ kinds.kind_inside text.now }
 {
     if let Some(kind) = known_kind(text) {
         return Some(kind);
@@ -110,8 +110,8 @@ fn kind_inside(text: &str) -> Option<ToldKind<'_>>
 
 /// A code in front of the first blank, and the message behind it.
 #[tactic(auto, unfolding(crate::specs::Kinds::code_at_blank))]
-fn code_at_blank(said: &str) -> Option<(ToldKind<'_>, &str)>
-    ensures { option_map (λ found. (kind_told found.0, found.1.now)) result
+fn code_at_blank(said: &str) -> Option<(ParsedKind<'_>, &str)>
+    ensures { option_map (λ found. (kind_parsed found.0, found.1.now)) result
         ≡ kinds.code_at_blank said.now }
 {
     let (code, words) = split_once(said, ' ')?;
@@ -120,8 +120,8 @@ fn code_at_blank(said: &str) -> Option<(ToldKind<'_>, &str)>
 
 /// The known kind that a text is: `NAME`, `NAME[CODE]`, `NAME(CODE)` or `NAME CODE`.
 #[tactic(auto, unfolding(crate::specs::Kinds::known_kind))]
-fn known_kind(text: &str) -> Option<ToldKind<'_>>
-    ensures { option_map kind_told result ≡ kinds.known_kind text.now }
+fn known_kind(text: &str) -> Option<ParsedKind<'_>>
+    ensures { option_map kind_parsed result ≡ kinds.known_kind text.now }
 {
     if let Some(kind) = kind_by_name(text, None) {
         return Some(kind);
@@ -132,11 +132,11 @@ fn known_kind(text: &str) -> Option<ToldKind<'_>>
 
 /// The kind with this name, and its code.
 #[tactic(auto, unfolding(crate::specs::Kinds::kind_by_name))]
-fn kind_by_name<'a>(name: &'a str, code: Option<&'a str>) -> Option<ToldKind<'a>>
-    ensures { option_map kind_told result
+fn kind_by_name<'a>(name: &'a str, code: Option<&'a str>) -> Option<ParsedKind<'a>>
+    ensures { option_map kind_parsed result
         ≡ kinds.kind_by_name name.now (option_map (λ code. code.now) code.entry) }
 {
-    Some(ToldKind {
+    Some(ParsedKind {
         severity: Severity::of(name)?,
         name: if is_own_name(name) { Some(name) } else { None },
         code,
@@ -199,14 +199,14 @@ fn code_behind_blank(text: &str) -> Option<(&str, &str)>
 
 /// The kind that a code alone tells, if a text is one. Those of pylint's tell what its columns count.
 #[tactic(auto, unfolding(crate::specs::Kinds::kind_by_code))]
-fn kind_by_code(code: &str, is_of_pylint: bool) -> Option<ToldKind<'_>>
-    ensures { option_map kind_told result ≡ kinds.kind_by_code is_of_pylint code.now }
+fn kind_by_code(code: &str, is_of_pylint: bool) -> Option<ParsedKind<'_>>
+    ensures { option_map kind_parsed result ≡ kinds.kind_by_code is_of_pylint code.now }
 {
     if !is_code(code) {
         return None;
     }
     let is_from_one = counts_from_one(code);
-    Some(ToldKind {
+    Some(ParsedKind {
         severity: severity_by_letter(code),
         name: None,
         code: Some(code),
@@ -285,8 +285,8 @@ fn severity_by_letter(code: &str) -> Severity
 /// A word of the tool's own in front of the first colon, which a blank follows, and the message behind
 /// it.
 #[tactic(auto, unfolding(crate::specs::Kinds::own_kind_in))]
-pub(crate) fn own_kind(said: &str) -> Option<(ToldKind<'_>, &str)>
-    ensures { option_map (λ found. (kind_told found.0, found.1.now)) result ≡ kinds.own_kind_in said.now }
+pub(crate) fn own_kind(said: &str) -> Option<(ParsedKind<'_>, &str)>
+    ensures { option_map (λ found. (kind_parsed found.0, found.1.now)) result ≡ kinds.own_kind_in said.now }
 {
     let (word, rest) = split_once(said, ':')?;
     let kind = kind_by_word(word)?;
@@ -295,8 +295,8 @@ pub(crate) fn own_kind(said: &str) -> Option<(ToldKind<'_>, &str)>
 
 /// The kind that a word names: a warning, or where it is one letter, what codes with that letter are.
 #[tactic(auto, unfolding(crate::specs::Kinds::kind_by_word))]
-fn kind_by_word(word: &str) -> Option<ToldKind<'_>>
-    ensures { option_map kind_told result ≡ kinds.kind_by_word word.now }
+fn kind_by_word(word: &str) -> Option<ParsedKind<'_>>
+    ensures { option_map kind_parsed result ≡ kinds.kind_by_word word.now }
 {
     if !is_word(word) {
         return None;
@@ -305,7 +305,7 @@ fn kind_by_word(word: &str) -> Option<ToldKind<'_>>
         1 => severity_by_letter(word),
         _ => Severity::Warning,
     };
-    Some(ToldKind {
+    Some(ParsedKind {
         severity,
         name: Some(word),
         code: None,

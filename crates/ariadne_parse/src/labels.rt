@@ -4,15 +4,15 @@ ghost use Rattle.std.specs.Prelude.{◌≡◌, ◌++◌, map, option_map, IfOk, 
 ghost use Rattle.std.specs.List.{filter_map, flat_map};
 ghost use Rattle.serde_json.specs.View.{items_view, view};
 ghost use Rattle.ariadne_parse.specs.Members.{flat_items};
-ghost use Rattle.ariadne_parse.specs.Places.{seen};
+ghost use Rattle.ariadne_parse.specs.Spans.{seen};
 ghost use Rattle.ariadne_parse.specs.Read.{as_quoted};
 ghost use Rattle.ariadne_parse.specs.Rustc as rustc;
 ghost use Rattle.ariadne_parse.specs.Rustc.{labelled};
 
-use crate::diagnostic::{End, Place, QuotedLine};
-use crate::heads::place;
+use crate::diagnostic::{End, QuotedLine, Span};
+use crate::heads::span;
 use crate::json::{is_true, items, number, text, words};
-use crate::spans::{is_dummy, is_shown, own_span, shown_call, spot};
+use crate::span_values::{is_dummy, is_shown, location, own_span_value, shown_call};
 use crate::suggested::quoted_text;
 use crate::unit::Unit;
 use serde_json::Value;
@@ -22,7 +22,7 @@ use std::alloc::{AllocError, Global};
 #[derive(Clone, Copy)]
 pub(crate) struct Label<'v> {
     /// The span.
-    pub(crate) span: &'v Value,
+    pub(crate) span_value: &'v Value,
     /// What is said of it; nothing where it is empty.
     pub(crate) said: &'v str,
     /// Whether the diagnostic is about it.
@@ -30,30 +30,30 @@ pub(crate) struct Label<'v> {
 }
 
 /// Adds the labels of a diagnostic's own spans.
-pub(crate) fn push_spans<'v>(
+pub(crate) fn push_span_values<'v>(
     labels: &mut Vec<Label<'v>>,
-    spans: &'v [Value],
+    span_values: &'v [Value],
 ) -> Result<(), AllocError>
     ensures { OnOk result (map labelled labels.new.items
-        ≡ map labelled labels.old.items ++ flat_items rustc.span_labels (items_view spans.now)) }
+        ≡ map labelled labels.old.items ++ flat_items rustc.span_value_labels (items_view span_values.now)) }
 {
-    for span in spans {
-        push_span(labels, span)?;
+    for span_value in span_values {
+        push_span_value(labels, span_value)?;
     }
     Ok(())
 }
 
-/// Adds the label of a span that stands for a place, and that of the macro call that is shown too.
-#[tactic(auto, unfolding(crate::specs::Rustc::span_labels))]
-fn push_span<'v>(labels: &mut Vec<Label<'v>>, span: &'v Value) -> Result<(), AllocError>
+/// Adds the label of a span that stands for a span, and that of the macro call that is shown too.
+#[tactic(auto, unfolding(crate::specs::Rustc::span_value_labels))]
+fn push_span_value<'v>(labels: &mut Vec<Label<'v>>, span_value: &'v Value) -> Result<(), AllocError>
     ensures { OnOk result (map labelled labels.new.items
-        ≡ map labelled labels.old.items ++ rustc.span_labels (view span.now)) }
+        ≡ map labelled labels.old.items ++ rustc.span_value_labels (view span_value.now)) }
 {
-    if is_dummy(span) {
+    if is_dummy(span_value) {
         return Ok(());
     }
-    let own = own_span(span);
-    labels.push(own_label(span, own))?;
+    let own = own_span_value(span_value);
+    labels.push(own_label(span_value, own))?;
     if let Some(call) = shown_call(own) {
         labels.push(call_label(call))?;
     }
@@ -61,13 +61,13 @@ fn push_span<'v>(labels: &mut Vec<Label<'v>>, span: &'v Value) -> Result<(), All
 }
 
 /// The label of one of a diagnostic's own spans, for which this one is shown.
-fn own_label<'v>(span: &'v Value, own: &'v Value) -> Label<'v>
-    ensures { labelled result ≡ rustc.own_label (view span.now) (view own.now) }
+fn own_label<'v>(span_value: &'v Value, own: &'v Value) -> Label<'v>
+    ensures { labelled result ≡ rustc.own_label (view span_value.now) (view own.now) }
 {
     Label {
-        span: own,
-        said: words(span, "label"),
-        is_primary: is_true(span, "is_primary"),
+        span_value: own,
+        said: words(span_value, "label"),
+        is_primary: is_true(span_value, "is_primary"),
     }
 }
 
@@ -76,7 +76,7 @@ fn call_label(call: &Value) -> Label<'_>
     ensures { labelled result ≡ rustc.call_label (view call.now) }
 {
     Label {
-        span: call,
+        span_value: call,
         said: "in this macro invocation",
         is_primary: false,
     }
@@ -85,14 +85,14 @@ fn call_label(call: &Value) -> Label<'_>
 /// Adds the labels of those spans of a note that can be shown.
 pub(crate) fn push_noted<'v>(
     labels: &mut Vec<Label<'v>>,
-    spans: &'v [Value],
+    span_values: &'v [Value],
     message: &'v str,
 ) -> Result<(), AllocError>
     ensures { OnOk result (map labelled labels.new.items
-        ≡ map labelled labels.old.items ++ rustc.noted_labels message.now (items_view spans.now)) }
+        ≡ map labelled labels.old.items ++ rustc.noted_labels message.now (items_view span_values.now)) }
 {
-    for span in spans {
-        if let Some(label) = noted_label(span, message) {
+    for span_value in span_values {
+        if let Some(label) = noted_label(span_value, message) {
             labels.push(label)?;
         }
     }
@@ -101,14 +101,14 @@ pub(crate) fn push_noted<'v>(
 
 /// The label of a span of a note, if it can be shown.
 #[tactic(auto, unfolding(crate::specs::Rustc::noted_label))]
-fn noted_label<'v>(span: &'v Value, message: &'v str) -> Option<Label<'v>>
-    ensures { option_map labelled result ≡ rustc.noted_label message.now (view span.now) }
+fn noted_label<'v>(span_value: &'v Value, message: &'v str) -> Option<Label<'v>>
+    ensures { option_map labelled result ≡ rustc.noted_label message.now (view span_value.now) }
 {
-    let own = own_span(span);
+    let own = own_span_value(span_value);
     if is_shown(own) {
         Some(Label {
-            span: own,
-            said: said_by(span, message),
+            span_value: own,
+            said: said_by(span_value, message),
             is_primary: false,
         })
     } else {
@@ -117,55 +117,55 @@ fn noted_label<'v>(span: &'v Value, message: &'v str) -> Option<Label<'v>>
 }
 
 /// What a span of a note says: a primary one the note, where it has no label.
-fn said_by<'v>(span: &'v Value, message: &'v str) -> &'v str
-    ensures { result.now ≡ rustc.said_by message.now (view span.now) }
+fn said_by<'v>(span_value: &'v Value, message: &'v str) -> &'v str
+    ensures { result.now ≡ rustc.said_by message.now (view span_value.now) }
 {
-    match text(span, "label") {
+    match text(span_value, "label") {
         Some(label) => label,
-        None if is_true(span, "is_primary") => message,
+        None if is_true(span_value, "is_primary") => message,
         None => "",
     }
 }
 
-/// The places of those labels whose spans have a line.
-pub(crate) fn places_of(alloc: Global, labels: &[Label<'_>]) -> Result<Vec<Place>, AllocError>
-    ensures { IfOk result (λ places.
-        map seen places.items ≡ filter_map rustc.label_place (map labelled labels.now)) }
+/// The spans of those labels whose spans have a line.
+pub(crate) fn spans_of(alloc: Global, labels: &[Label<'_>]) -> Result<Vec<Span>, AllocError>
+    ensures { IfOk result (λ spans.
+        map seen spans.items ≡ filter_map rustc.label_span (map labelled labels.now)) }
 {
-    let mut places = Vec::new(alloc);
+    let mut spans = Vec::new(alloc);
     for label in labels {
-        if let Some(place) = label_place(alloc, label)? {
-            places.push(place)?;
+        if let Some(span) = label_span(alloc, label)? {
+            spans.push(span)?;
         }
     }
-    Ok(places)
+    Ok(spans)
 }
 
-/// The place of a label, if its span has a line.
-fn label_place(alloc: Global, label: &Label<'_>) -> Result<Option<Place>, AllocError>
-    ensures { IfOk result (λ place. option_map seen place ≡ rustc.label_place (labelled label.now)) }
+/// The span of a label, if its span has a line.
+fn label_span(alloc: Global, label: &Label<'_>) -> Result<Option<Span>, AllocError>
+    ensures { IfOk result (λ span. option_map seen span ≡ rustc.label_span (labelled label.now)) }
 {
-    let span = label.span;
-    let Some(start) = spot(span, "line_start", "column_start") else {
+    let span_value = label.span_value;
+    let Some(start) = location(span_value, "line_start", "column_start") else {
         return Ok(None);
     };
-    let mut place = place(
+    let mut span = span(
         alloc,
-        words(span, "file_name"),
+        words(span_value, "file_name"),
         start,
-        end(span),
+        end(span_value),
         Unit::Char,
     )?;
-    place.text = String::from_str(alloc, label.said)?;
-    place.is_primary = label.is_primary;
-    Ok(Some(place))
+    span.text = String::from_str(alloc, label.said)?;
+    span.is_primary = label.is_primary;
+    Ok(Some(span))
 }
 
 /// Where a span ends.
-fn end(span: &Value) -> End
-    ensures { result ≡ rustc.rustc_end (view span.now) }
+fn end(span_value: &Value) -> End
+    ensures { result ≡ rustc.rustc_end (view span_value.now) }
 {
-    match spot(span, "line_end", "column_end") {
+    match location(span_value, "line_end", "column_end") {
         Some(end) => End::Before(end),
         None => End::OfWord,
     }
@@ -174,24 +174,28 @@ fn end(span: &Value) -> End
 /// The lines that rustc quotes of the files of labels.
 pub(crate) fn quoted_of(alloc: Global, labels: &[Label<'_>]) -> Result<Vec<QuotedLine>, AllocError>
     ensures { IfOk result (λ quoted. map as_quoted quoted.items
-        ≡ flat_map (λ label. rustc.span_quotes label.span) (map labelled labels.now)) }
+        ≡ flat_map (λ label. rustc.span_value_quotes label.span_value) (map labelled labels.now)) }
 {
     let mut quoted = Vec::new(alloc);
     for label in labels {
-        push_quoted(alloc, &mut quoted, label.span)?;
+        push_quoted(alloc, &mut quoted, label.span_value)?;
     }
     Ok(quoted)
 }
 
 /// Adds the lines that rustc quotes for a span, if that has a line.
-fn push_quoted(alloc: Global, quoted: &mut Vec<QuotedLine>, span: &Value) -> Result<(), AllocError>
+fn push_quoted(
+    alloc: Global,
+    quoted: &mut Vec<QuotedLine>,
+    span_value: &Value,
+) -> Result<(), AllocError>
     ensures { OnOk result (map as_quoted quoted.new.items
-        ≡ map as_quoted quoted.old.items ++ rustc.span_quotes (view span.now)) }
+        ≡ map as_quoted quoted.old.items ++ rustc.span_value_quotes (view span_value.now)) }
 {
-    match number(span, "line_start") {
+    match number(span_value, "line_start") {
         Some(first) => {
-            let file = words(span, "file_name");
-            push_lines(alloc, quoted, file, first, items(span, "text"))
+            let file = words(span_value, "file_name");
+            push_lines(alloc, quoted, file, first, items(span_value, "text"))
         }
         None => Ok(()),
     }

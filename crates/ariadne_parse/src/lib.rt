@@ -19,6 +19,7 @@ mod kinds;
 mod labels;
 pub mod laws;
 pub mod lines;
+pub mod locations;
 mod names;
 mod noted;
 pub mod pieces;
@@ -27,8 +28,7 @@ mod report;
 mod rustc;
 pub mod sent;
 pub mod sgr;
-mod spans;
-pub mod spots;
+mod span_values;
 mod suggested;
 pub mod tally;
 pub mod telling;
@@ -38,15 +38,15 @@ pub use arrows::{Arrow, BareHead, arrow_of, bare_head_of};
 pub use columns::Columns;
 pub use counting::Counting;
 pub use diagnostic::{
-    Change, Diagnostic, End, Look, OwnKind, Place, Proposal, QuotedLine, Severity, Spot,
+    Change, Diagnostic, End, Location, Look, OwnKind, Proposal, QuotedLine, Severity, Span,
 };
 pub use fix_rows::{FixRow, fix_row_of};
 pub use fronts::{Front, front_of, is_scope_line};
-pub use heads::place;
+pub use heads::span;
 pub use lines::code_in;
-pub use noted::named_place;
+pub use noted::named_span;
 pub use sent::Sent;
 pub use sgr::{has_escape, without_sgr};
 pub use tally::is_tally;
-pub use telling::{Answer, Format, Reading, told, told_by_value};
+pub use telling::{Answer, Format, Reading, parsed, parsed_by_value};
 pub use unit::Unit;

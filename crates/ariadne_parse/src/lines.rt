@@ -5,41 +5,41 @@ ghost use Rattle.std.specs.Prelude.{◌≡◌, [], drop, option_map, MatchOption
 ghost use Rattle.std.specs.Path.{rsplit_once};
 ghost use Rattle.std.specs.Str.{IsCharBoundary};
 ghost use Rattle.ariadne_parse.specs.Heads as heads;
-ghost use Rattle.ariadne_parse.specs.ParsedLines.{is_note as is_note_head};
-ghost use Rattle.ariadne_parse.specs.ToldLines.{head_told, kind_told, IsCutAtColon};
+ghost use Rattle.ariadne_parse.specs.ParsedDiagnostics.{is_note as is_note_head};
+ghost use Rattle.ariadne_parse.specs.ParsedLines.{head_parsed, kind_parsed, IsCutAtColon};
 
-use crate::diagnostic::{Severity, Spot};
-use crate::kinds::{ToldKind, own_kind, sure_kind};
+use crate::diagnostic::{Location, Severity};
+use crate::kinds::{ParsedKind, own_kind, sure_kind};
+use crate::locations::{behind_ranges, span, span_in_parens};
 use crate::pieces::{
     begins_with, behind, closes_with, in_front_of, is_flush, past_blanks, split_at_last,
 };
-use crate::spots::{behind_ranges, place, place_in_parens};
 
 /// How many colons the name of a file may have, as in `C:\a.c`.
 pub(crate) const COLONS: u8 = 8;
 
 /// What a line tells, in pieces of it.
 #[derive(Clone, Copy)]
-pub(crate) struct ToldLine<'a> {
+pub(crate) struct ParsedLine<'a> {
     /// The file.
     pub file: &'a str,
     /// Where the line points. Its columns count as the tool's do.
-    pub start: Spot,
+    pub start: Location,
     /// Where the last character stands that it is about, if it says so.
-    pub end: Option<Spot>,
+    pub end: Option<Location>,
     /// Its ranges, and what stands behind them.
     pub ranges: &'a str,
     /// Its kind, and its code.
-    pub kind: ToldKind<'a>,
+    pub kind: ParsedKind<'a>,
     /// What it says.
     pub message: &'a str,
 }
 
-impl ToldLine<'_> {
+impl ParsedLine<'_> {
     /// Whether it is a note about the diagnostic in front: it is named so, and has no code of its own; or its
     /// message goes on with that of the diagnostic.
     pub(crate) fn is_note(&self) -> bool
-        ensures { result ≡ is_note_head (head_told self.now) }
+        ensures { result ≡ is_note_head (head_parsed self.now) }
     {
         self.kind.goes_on || self.kind.is_note && self.kind.code.is_none()
     }
@@ -51,25 +51,25 @@ impl ToldLine<'_> {
 /// column, and the name has a dot and no blank. One blank stands in front of what is said, which is
 /// not empty but behind a known word.
 #[tactic(auto, unfolding(crate::specs::Heads::head_of_line))]
-pub(crate) fn line_told(line: &str) -> Option<ToldLine<'_>>
-    ensures { option_map head_told result ≡ heads.head_of_line line.now }
+pub(crate) fn line_parsed(line: &str) -> Option<ParsedLine<'_>>
+    ensures { option_map head_parsed result ≡ heads.head_of_line line.now }
 {
     match line.strip_prefix("vet: ") {
-        Some(rest) => told_at_colon(rest),
-        None => told_at_colon(line),
+        Some(rest) => parsed_at_colon(rest),
+        None => parsed_at_colon(line),
     }
 }
 
 /// What a line tells behind the first of its colons at which it tells something.
 #[tactic(auto, unfolding(crate::specs::Heads::head_in))]
-fn told_at_colon(line: &str) -> Option<ToldLine<'_>>
-    ensures { option_map head_told result ≡ heads.head_in line.now }
+fn parsed_at_colon(line: &str) -> Option<ParsedLine<'_>>
+    ensures { option_map head_parsed result ≡ heads.head_in line.now }
 {
     let mut from = 0usize;
     for turn in 0..COLONS {
         let (file, text, next) = cut_at_colon(line, from)?;
-        match told_behind(file, text) {
-            Some(told) => return Some(told),
+        match parsed_behind(file, text) {
+            Some(parsed) => return Some(parsed),
             None => from = next,
         }
     }
@@ -89,33 +89,33 @@ pub(crate) fn cut_at_colon(line: &str, from: usize) -> Option<(&str, &str, usize
 
 /// What stands in front of a colon and behind it.
 #[tactic(auto, unfolding(crate::specs::Heads::head_behind))]
-fn told_behind<'a>(front: &'a str, text: &'a str) -> Option<ToldLine<'a>>
-    ensures { option_map head_told result ≡ heads.head_behind front.now text.now }
+fn parsed_behind<'a>(front: &'a str, text: &'a str) -> Option<ParsedLine<'a>>
+    ensures { option_map head_parsed result ≡ heads.head_behind front.now text.now }
 {
-    match told_behind_place(front, text) {
-        Some(told) => Some(told),
-        None => told_behind_parens(front, text),
+    match parsed_behind_span(front, text) {
+        Some(parsed) => Some(parsed),
+        None => parsed_behind_parens(front, text),
     }
 }
 
-/// What stands behind a file and a place in parentheses, `FILE(LINE,COLUMN)`, and a colon.
+/// What stands behind a file and a span in parentheses, `FILE(LINE,COLUMN)`, and a colon.
 #[tactic(auto, unfolding(crate::specs::Heads::head_behind_parens))]
-fn told_behind_parens<'a>(front: &'a str, text: &'a str) -> Option<ToldLine<'a>>
-    ensures { option_map head_told result ≡ heads.head_behind_parens front.now text.now }
+fn parsed_behind_parens<'a>(front: &'a str, text: &'a str) -> Option<ParsedLine<'a>>
+    ensures { option_map head_parsed result ≡ heads.head_behind_parens front.now text.now }
 {
-    let (file, start) = place_in_parens(front)?;
-    told_said(file, start, None, text, said_in(text)?)
+    let (file, start) = span_in_parens(front)?;
+    parsed_said(file, start, None, text, said_in(text)?)
 }
 
-/// What stands behind the name of a file and its colon: a place, and what is said of it.
-#[tactic(auto, unfolding(crate::specs::Heads::head_behind_place))]
-fn told_behind_place<'a>(file: &'a str, text: &'a str) -> Option<ToldLine<'a>>
-    ensures { option_map head_told result ≡ heads.head_behind_place file.now text.now }
+/// What stands behind the name of a file and its colon: a span, and what is said of it.
+#[tactic(auto, unfolding(crate::specs::Heads::head_behind_span))]
+fn parsed_behind_span<'a>(file: &'a str, text: &'a str) -> Option<ParsedLine<'a>>
+    ensures { option_map head_parsed result ≡ heads.head_behind_span file.now text.now }
 {
-    let (start, end, rest) = place(text)?;
+    let (start, end, rest) = span(text)?;
     let ranges = behind(rest, ':')?;
     let said = said_in(ranges)?;
-    told_said(file, start, end, ranges, said)
+    parsed_said(file, start, end, ranges, said)
 }
 
 /// What is said behind the ranges and one blank.
@@ -130,24 +130,24 @@ fn said_in(text: &str) -> Option<&str>
     Some(said)
 }
 
-/// What a line tells that says this of a place.
+/// What a line tells that says this of a span.
 #[tactic(auto, unfolding(crate::specs::Heads::head_with, crate::specs::Heads::head_of))]
-fn told_said<'a>(
+fn parsed_said<'a>(
     file: &'a str,
-    start: Spot,
-    end: Option<Spot>,
+    start: Location,
+    end: Option<Location>,
     ranges: &'a str,
     said: &'a str,
-) -> Option<ToldLine<'a>>
-    ensures { option_map head_told result ≡ heads.head_with file.now (start, end) ranges.now said.now }
+) -> Option<ParsedLine<'a>>
+    ensures { option_map head_parsed result ≡ heads.head_with file.now (start, end) ranges.now said.now }
 {
     let (kind, words) = kind_of(file, start, said)?;
     let (coded, behind) = with_code(kind, words);
     let message = message_kept(file, &kind, behind);
-    if !is_told(&kind, message) || !is_flush(file) {
+    if !is_parsed(&kind, message) || !is_flush(file) {
         return None;
     }
-    Some(ToldLine {
+    Some(ParsedLine {
         file,
         start,
         end,
@@ -158,24 +158,24 @@ fn told_said<'a>(
 }
 
 /// Whether a message is told: it is not empty, or stands behind a known word.
-fn is_told(kind: &ToldKind<'_>, message: &str) -> bool
-    ensures { result ≡ heads.is_told (kind_told kind.now) message.now }
+fn is_parsed(kind: &ParsedKind<'_>, message: &str) -> bool
+    ensures { result ≡ heads.is_parsed (kind_parsed kind.now) message.now }
 {
     !message.is_empty() || is_plain(kind)
 }
 
 /// Whether a known word alone stands in the place of a kind, or nothing does.
-fn is_plain(kind: &ToldKind<'_>) -> bool
-    ensures { result ≡ heads.is_plain (kind_told kind.now) }
+fn is_plain(kind: &ParsedKind<'_>) -> bool
+    ensures { result ≡ heads.is_plain (kind_parsed kind.now) }
 {
     kind.name.is_none() && kind.code.is_none()
 }
 
-/// The kind of what is said of a place, and the words behind it. Where none is named, there has to be
+/// The kind of what is said of a span, and the words behind it. Where none is named, there has to be
 /// a column, and the file has to be sure.
 #[tactic(auto, unfolding(crate::specs::Heads::kind_of_said))]
-fn kind_of<'a>(file: &str, start: Spot, said: &'a str) -> Option<(ToldKind<'a>, &'a str)>
-    ensures { option_map (λ found. (kind_told found.0, found.1.now)) result
+fn kind_of<'a>(file: &str, start: Location, said: &'a str) -> Option<(ParsedKind<'a>, &'a str)>
+    ensures { option_map (λ found. (kind_parsed found.0, found.1.now)) result
         ≡ heads.kind_of_said file.now start said.now }
 {
     match named_kind(file, said) {
@@ -185,10 +185,10 @@ fn kind_of<'a>(file: &str, start: Spot, said: &'a str) -> Option<(ToldKind<'a>, 
 }
 
 /// A kind, which goes on with the diagnostic in front where the words behind it begin with two blanks.
-fn going_on<'a>(kind: ToldKind<'a>, words: &str) -> ToldKind<'a>
-    ensures { kind_told result ≡ heads.going_on (kind_told kind.entry) words.now }
+fn going_on<'a>(kind: ParsedKind<'a>, words: &str) -> ParsedKind<'a>
+    ensures { kind_parsed result ≡ heads.going_on (kind_parsed kind.entry) words.now }
 {
-    ToldKind {
+    ParsedKind {
         goes_on: is_plain(&kind) && begins_with(words, "  "),
         ..kind
     }
@@ -196,8 +196,8 @@ fn going_on<'a>(kind: ToldKind<'a>, words: &str) -> ToldKind<'a>
 
 /// A message without the blanks in front of it, but where a tool of Python's shows by them what goes on with
 /// what.
-fn message_kept<'a>(file: &str, kind: &ToldKind<'_>, words: &'a str) -> &'a str
-    ensures { result.now ≡ heads.message_kept file.now (kind_told kind.now) words.now }
+fn message_kept<'a>(file: &str, kind: &ParsedKind<'_>, words: &'a str) -> &'a str
+    ensures { result.now ≡ heads.message_kept file.now (kind_parsed kind.now) words.now }
 {
     let message = past_blanks(words);
     if keeps_blanks(file, kind) && !message.is_empty() {
@@ -208,16 +208,16 @@ fn message_kept<'a>(file: &str, kind: &ToldKind<'_>, words: &'a str) -> &'a str
 }
 
 /// Whether a note about a file of Python's is told, whose tools indent what notes go on with.
-fn keeps_blanks(file: &str, kind: &ToldKind<'_>) -> bool
-    ensures { result ≡ heads.keeps_blanks file.now (kind_told kind.now) }
+fn keeps_blanks(file: &str, kind: &ParsedKind<'_>) -> bool
+    ensures { result ≡ heads.keeps_blanks file.now (kind_parsed kind.now) }
 {
     kind.is_note && (closes_with(file, ".py") || closes_with(file, ".pyi"))
 }
 
 /// The kind that is named, and the message behind it.
 #[tactic(auto, unfolding(crate::specs::Heads::named_kind_in))]
-fn named_kind<'a>(file: &str, said: &'a str) -> Option<(ToldKind<'a>, &'a str)>
-    ensures { option_map (λ found. (kind_told found.0, found.1.now)) result
+fn named_kind<'a>(file: &str, said: &'a str) -> Option<(ParsedKind<'a>, &'a str)>
+    ensures { option_map (λ found. (kind_parsed found.0, found.1.now)) result
         ≡ heads.named_kind_in file.now said.now }
 {
     match sure_kind(said) {
@@ -250,14 +250,14 @@ fn is_of_eslint(code: &str) -> bool
 
 /// The kind where none is named, and the whole as its message.
 #[tactic(auto, unfolding(crate::specs::Heads::unnamed_kind_in))]
-fn unnamed_kind<'a>(file: &str, start: Spot, said: &'a str) -> Option<(ToldKind<'a>, &'a str)>
-    ensures { option_map (λ found. (kind_told found.0, found.1.now)) result
+fn unnamed_kind<'a>(file: &str, start: Location, said: &'a str) -> Option<(ParsedKind<'a>, &'a str)>
+    ensures { option_map (λ found. (kind_parsed found.0, found.1.now)) result
         ≡ heads.unnamed_kind_in file.now start said.now }
 {
     if !is_sure_file(file) || start.column.is_none() {
         return None;
     }
-    let kind = ToldKind {
+    let kind = ParsedKind {
         severity: severity_by_code(said),
         name: None,
         code: None,
@@ -288,16 +288,16 @@ fn severity_by_code(said: &str) -> Severity
 }
 
 /// A kind with the code behind the message, if it has none itself, and the message without that.
-fn with_code<'a>(kind: ToldKind<'a>, words: &'a str) -> (ToldKind<'a>, &'a str)
-    ensures kind { kind_told result.0 ≡ heads.kind_with_code (kind_told kind.entry) words.now }
-    ensures message { result.1.now ≡ heads.message_with (kind_told kind.entry) words.now }
+fn with_code<'a>(kind: ParsedKind<'a>, words: &'a str) -> (ParsedKind<'a>, &'a str)
+    ensures kind { kind_parsed result.0 ≡ heads.kind_with_code (kind_parsed kind.entry) words.now }
+    ensures message { result.1.now ≡ heads.message_with (kind_parsed kind.entry) words.now }
 {
     if kind.code.is_some() {
         return (kind, words);
     }
     match code_in(words) {
         Some((message, code)) => (
-            ToldKind {
+            ParsedKind {
                 code: Some(code),
                 ..kind
             },

@@ -1,14 +1,14 @@
-//! Places that can't be shown, as rows of a note.
+//! Spans that can't be shown, as rows of a note.
 
 ghost use Rattle.std.specs.Prelude.{◌≡◌, string_bytes, IfOk, OnOk};
-ghost use Rattle.ariadne_parse.specs.Noted.{column_words, place_row, said_words, with_row};
+ghost use Rattle.ariadne_parse.specs.Noted.{column_words, said_words, span_row, with_row};
 
-use crate::diagnostic::Spot;
+use crate::diagnostic::Location;
 use std::alloc::{AllocError, Global};
 
 /// Where something is, `FILE:LINE:COLUMN`, and what is said of it, if anything is. On `Err` there was no memory.
-pub fn named_place(alloc: Global, file: &str, at: Spot, said: &str) -> Result<String, AllocError>
-    ensures { IfOk result (λ text. string_bytes text ≡ place_row file.now at said.now) }
+pub fn named_span(alloc: Global, file: &str, at: Location, said: &str) -> Result<String, AllocError>
+    ensures { IfOk result (λ text. string_bytes text ≡ span_row file.now at said.now) }
 {
     let line = at.line;
     let column = column_text(alloc, at.column)?;

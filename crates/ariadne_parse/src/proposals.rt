@@ -6,7 +6,7 @@ ghost use Rattle.std.specs.Str.{bytes_eq};
 ghost use Rattle.ariadne_parse.specs.Proposed as proposed;
 ghost use Rattle.ariadne_parse.specs.Proposed.{edit_of, filed, way_of};
 
-use crate::diagnostic::{Change, Proposal, Spot};
+use crate::diagnostic::{Change, Location, Proposal};
 use crate::heads::is_same;
 use std::alloc::{AllocError, Global};
 
@@ -16,9 +16,9 @@ pub(crate) struct FileChange<'a> {
     /// The file's path.
     pub(crate) file: &'a str,
     /// Where the piece begins that is changed.
-    pub(crate) start: Spot,
+    pub(crate) start: Location,
     /// In front of what it ends.
-    pub(crate) end: Spot,
+    pub(crate) end: Location,
     /// The text that is put there.
     pub(crate) put_in: &'a str,
 }

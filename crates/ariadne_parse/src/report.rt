@@ -4,16 +4,16 @@ ghost use Rattle.std.specs.Prelude.{◌≡◌, ◌++◌, codes, map, option_map,
 ghost use Rattle.std.specs.List.{list_all, list_any};
 ghost use Rattle.serde_json.specs.View.{items_view, view};
 ghost use Rattle.ariadne_parse.specs.Members.{all_items};
-ghost use Rattle.ariadne_parse.specs.Places.{named, seen};
+ghost use Rattle.ariadne_parse.specs.Spans.{named, seen};
 ghost use Rattle.ariadne_parse.specs.Reports.{has_primary as has_primary_label, is_primary as is_primary_label};
-ghost use Rattle.ariadne_parse.specs.Reports.{label_place as place_of_label, label_spot};
-ghost use Rattle.ariadne_parse.specs.Reports.{look_at, places_in, report_kind, report_unit, texts_in, whole_at};
+ghost use Rattle.ariadne_parse.specs.Reports.{label_location, label_span as span_of_label};
+ghost use Rattle.ariadne_parse.specs.Reports.{look_at, report_kind, report_unit, spans_in, texts_in, whole_at};
 ghost use Rattle.ariadne_parse.specs.Reports.{IsOfReport};
-ghost use Rattle.ariadne_parse.specs.ParsedLines.{is_label as is_of_label, is_report as is_of_report};
+ghost use Rattle.ariadne_parse.specs.ParsedDiagnostics.{is_label as is_of_label, is_report as is_of_report};
 
 use crate::colors::color;
-use crate::diagnostic::{Diagnostic, End, Look, OwnKind, Place, Severity, Spot};
-use crate::heads::place;
+use crate::diagnostic::{Diagnostic, End, Location, Look, OwnKind, Severity, Span};
+use crate::heads::span;
 use crate::json::{copied_text, has_list, is_true, items, severity, text, usize_of, words};
 use crate::unit::Unit;
 use serde_json::Value;
@@ -48,15 +48,15 @@ fn each_is_label(values: &[Value]) -> bool
 fn is_label(value: &Value) -> bool
     ensures { result ≡ is_of_label (view value.now) }
 {
-    text(value, "file").is_some() && spot(value, "start").is_some()
+    text(value, "file").is_some() && location(value, "start").is_some()
 }
 
 /// A member that is a list of a line and a column, or of a line alone.
-fn spot(value: &Value, name: &str) -> Option<Spot>
-    ensures { result ≡ label_spot name.now (view value.now) }
+fn location(value: &Value, name: &str) -> Option<Location>
+    ensures { result ≡ label_location name.now (view value.now) }
 {
     let numbers = items(value, name);
-    Some(Spot {
+    Some(Location {
         line: usize_of(numbers.first()?)?,
         column: numbers.get(1).and_then(usize_of),
     })
@@ -75,21 +75,21 @@ fn unit_of(value: &Value) -> Unit
 }
 
 /// The diagnostic of a value that is a report.
-pub(crate) fn told_by_report(alloc: Global, value: &Value) -> Result<Diagnostic, AllocError>
-    ensures { IfOk result (λ told. IsOfReport (view value.now) told) }
+pub(crate) fn parsed_by_report(alloc: Global, value: &Value) -> Result<Diagnostic, AllocError>
+    ensures { IfOk result (λ parsed. IsOfReport (view value.now) parsed) }
 {
-    let mut told = Diagnostic::new(alloc, severity(value, "kind"), words(value, "message"))?;
-    told.own_kind = own_kind(alloc, value)?;
-    told.code = copied_text(alloc, value, "code")?;
+    let mut parsed = Diagnostic::new(alloc, severity(value, "kind"), words(value, "message"))?;
+    parsed.own_kind = own_kind(alloc, value)?;
+    parsed.code = copied_text(alloc, value, "code")?;
     push_labels(
         alloc,
-        &mut told.places,
+        &mut parsed.spans,
         items(value, "labels"),
         unit_of(value),
     )?;
-    push_texts(alloc, &mut told.notes, items(value, "notes"))?;
-    push_texts(alloc, &mut told.helps, items(value, "helps"))?;
-    Ok(told)
+    push_texts(alloc, &mut parsed.notes, items(value, "notes"))?;
+    push_texts(alloc, &mut parsed.helps, items(value, "helps"))?;
+    Ok(parsed)
 }
 
 /// The kind of its own that a report has, if it has one.
@@ -105,22 +105,22 @@ fn own_kind(alloc: Global, value: &Value) -> Result<Option<OwnKind>, AllocError>
     }
 }
 
-/// Adds the places of labels. Where none is primary, the first one is.
+/// Adds the spans of labels. Where none is primary, the first one is.
 fn push_labels(
     alloc: Global,
-    places: &mut Vec<Place>,
+    spans: &mut Vec<Span>,
     labels: &[Value],
     unit: Unit,
 ) -> Result<(), AllocError>
-    ensures { OnOk result (map seen places.new.items
-        ≡ map seen places.old.items ++ places_in unit (items_view labels.now)) }
+    ensures { OnOk result (map seen spans.new.items
+        ≡ map seen spans.old.items ++ spans_in unit (items_view labels.now)) }
 {
     let mut is_needed = !has_primary(labels);
     for label in labels {
         let is_primary = is_true(label, "primary") || is_needed;
         is_needed = false;
-        if let Some(place) = label_place(alloc, label, unit, is_primary)? {
-            places.push(place)?;
+        if let Some(span) = label_span(alloc, label, unit, is_primary)? {
+            spans.push(span)?;
         }
     }
     Ok(())
@@ -140,28 +140,28 @@ fn any_is_primary(labels: &[Value]) -> bool
     labels.iter().any(|label| is_true(label, "primary"))
 }
 
-/// The place of a label, if it begins somewhere.
-fn label_place(
+/// The span of a label, if it begins somewhere.
+fn label_span(
     alloc: Global,
     label: &Value,
     unit: Unit,
     is_primary: bool,
-) -> Result<Option<Place>, AllocError>
-    ensures { IfOk result (λ place. option_map seen place ≡ option_map
-        (place_of_label unit is_primary (view label.now)) (label_spot (codes "start") (view label.now))) }
+) -> Result<Option<Span>, AllocError>
+    ensures { IfOk result (λ span. option_map seen span ≡ option_map
+        (span_of_label unit is_primary (view label.now)) (label_location (codes "start") (view label.now))) }
 {
-    let Some(start) = spot(label, "start") else {
+    let Some(start) = location(label, "start") else {
         return Ok(None);
     };
-    let end = match spot(label, "end") {
+    let end = match location(label, "end") {
         Some(end) => End::Before(end),
         None => End::OfWord,
     };
-    let mut place = place(alloc, words(label, "file"), start, end, unit)?;
-    place.text = String::from_str(alloc, words(label, "text"))?;
-    place.is_primary = is_primary;
-    place.look = look_of(label);
-    Ok(Some(place))
+    let mut span = span(alloc, words(label, "file"), start, end, unit)?;
+    span.text = String::from_str(alloc, words(label, "text"))?;
+    span.is_primary = is_primary;
+    span.look = look_of(label);
+    Ok(Some(span))
 }
 
 /// What a label says of its look.

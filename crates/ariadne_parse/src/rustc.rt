@@ -8,17 +8,19 @@ ghost use Rattle.ariadne_parse.specs.Proposed.{filed};
 ghost use Rattle.ariadne_parse.specs.Read.{read};
 ghost use Rattle.ariadne_parse.specs.Rustc as rustc;
 ghost use Rattle.ariadne_parse.specs.Rustc.{as_said};
-ghost use Rattle.ariadne_parse.specs.ParsedLines.{is_rustc as is_of_rustc, rustc_in};
+ghost use Rattle.ariadne_parse.specs.ParsedDiagnostics.{is_rustc as is_of_rustc, rustc_in};
 
 use crate::diagnostic::{Diagnostic, Proposal};
 use crate::json::{
     copied_text, has_list, has_no_items, has_words, is_true, items, severity, text, words,
 };
-use crate::labels::{Label, places_of, push_noted as push_noted_labels, push_spans, quoted_of};
-use crate::noted::{named_place, push_row};
+use crate::labels::{
+    Label, push_noted as push_noted_labels, push_span_values, quoted_of, spans_of,
+};
+use crate::noted::{named_span, push_row};
 use crate::pieces::{begins_with, closes_with};
 use crate::proposals::FileChange;
-use crate::spans::{is_dummy, is_shown, own_span, spot};
+use crate::span_values::{is_dummy, is_shown, location, own_span_value};
 use crate::suggested::{changes_of, proposal, suggestion};
 use serde_json::Value;
 use std::alloc::{AllocError, Global};
@@ -50,7 +52,7 @@ fn is_rustc(value: &Value) -> bool
 /// What rustc says beside the message of a diagnostic.
 #[derive(Drop)]
 pub(crate) struct Beside<'v> {
-    /// Its labels, which become places, and lines that rustc quotes.
+    /// Its labels, which become spans, and lines that rustc quotes.
     pub(crate) labels: Vec<Label<'v>>,
     /// Its notes.
     pub(crate) notes: Vec<String>,
@@ -61,13 +63,13 @@ pub(crate) struct Beside<'v> {
 }
 
 /// The diagnostic of a value that is one, about a package of which this is the manifest.
-pub(crate) fn told_by_rustc(
+pub(crate) fn parsed_by_rustc(
     alloc: Global,
     value: &Value,
     manifest: Option<String>,
 ) -> Result<Diagnostic, AllocError>
-    ensures { IfOk result (λ told.
-        read told ≡ rustc.rustc_read (option_map string_bytes manifest) (view value.now)) }
+    ensures { IfOk result (λ parsed.
+        read parsed ≡ rustc.rustc_read (option_map string_bytes manifest) (view value.now)) }
 {
     let Beside {
         labels,
@@ -80,7 +82,7 @@ pub(crate) fn told_by_rustc(
         own_kind: None,
         code: code(alloc, value)?,
         message: String::from_str(alloc, words(value, "message"))?,
-        places: places_of(alloc, labels.as_slice())?,
+        spans: spans_of(alloc, labels.as_slice())?,
         notes,
         helps,
         proposals,
@@ -100,7 +102,7 @@ fn code(alloc: Global, value: &Value) -> Result<Option<String>, AllocError>
     }
 }
 
-/// Whether a diagnostic has no place, and sums up others or says where to read more.
+/// Whether a diagnostic has no span, and sums up others or says where to read more.
 fn is_sum(value: &Value) -> bool
     ensures { result ≡ rustc.is_rustc_sum (view value.now) }
 {
@@ -119,49 +121,53 @@ fn is_sum_by(value: &Value) -> bool
 /// What rustc says beside the message of a diagnostic.
 #[tactic(auto, unfolding(crate::specs::Rustc::said_in))]
 fn said_beside(alloc: Global, value: &Value) -> Result<Beside<'_>, AllocError>
-    ensures { IfOk result (λ told. as_said told ≡ rustc.said_in (view value.now)) }
+    ensures { IfOk result (λ parsed. as_said parsed ≡ rustc.said_in (view value.now)) }
 {
-    let mut told = Beside {
+    let mut parsed = Beside {
         labels: Vec::new(alloc),
         notes: Vec::new(alloc),
         helps: Vec::new(alloc),
         proposals: Vec::new(alloc),
     };
-    push_spans(&mut told.labels, items(value, "spans"))?;
-    push_children(alloc, &mut told, items(value, "children"))?;
-    Ok(told)
+    push_span_values(&mut parsed.labels, items(value, "spans"))?;
+    push_children(alloc, &mut parsed, items(value, "children"))?;
+    Ok(parsed)
 }
 
 /// Adds the children of a diagnostic, in their order.
 fn push_children<'v>(
     alloc: Global,
-    told: &mut Beside<'v>,
+    parsed: &mut Beside<'v>,
     children: &'v [Value],
 ) -> Result<(), AllocError>
-    ensures { OnOk result (as_said told.new ≡ rustc.with_children (as_said told.old) (items_view children.now)) }
+    ensures { OnOk result (as_said parsed.new ≡ rustc.with_children (as_said parsed.old) (items_view children.now)) }
 {
     for child in children {
-        push_child(alloc, told, child)?;
+        push_child(alloc, parsed, child)?;
     }
     Ok(())
 }
 
-/// Adds a note or a help: with what it puts in, or as labels where its places can be shown, and else as a
+/// Adds a note or a help: with what it puts in, or as labels where its spans can be shown, and else as a
 /// text.
 #[tactic(auto, unfolding(crate::specs::Rustc::with_child))]
-fn push_child<'v>(alloc: Global, told: &mut Beside<'v>, child: &'v Value) -> Result<(), AllocError>
-    ensures { OnOk result (as_said told.new ≡ rustc.with_child (as_said told.old) (view child.now)) }
+fn push_child<'v>(
+    alloc: Global,
+    parsed: &mut Beside<'v>,
+    child: &'v Value,
+) -> Result<(), AllocError>
+    ensures { OnOk result (as_said parsed.new ≡ rustc.with_child (as_said parsed.old) (view child.now)) }
 {
-    let spans = items(child, "spans");
-    let changes = changes_of(alloc, spans)?;
+    let span_values = items(child, "spans");
+    let changes = changes_of(alloc, span_values)?;
     if changes.is_empty() {
-        return push_noted(alloc, told, child);
+        return push_noted(alloc, parsed, child);
     }
     push_suggestion(
         alloc,
-        told,
+        parsed,
         words(child, "message"),
-        spans,
+        span_values,
         changes.as_slice(),
     )
 }
@@ -170,116 +176,129 @@ fn push_child<'v>(alloc: Global, told: &mut Beside<'v>, child: &'v Value) -> Res
 #[tactic(auto, unfolding(crate::specs::Rustc::with_suggested))]
 fn push_suggestion(
     alloc: Global,
-    told: &mut Beside<'_>,
+    parsed: &mut Beside<'_>,
     message: &str,
-    spans: &[Value],
+    span_values: &[Value],
     changes: &[FileChange<'_>],
 ) -> Result<(), AllocError>
-    ensures { OnOk result (as_said told.new ≡ rustc.with_suggested (as_said told.old) message.now
-        (items_view spans.now) (map filed changes.now)) }
+    ensures { OnOk result (as_said parsed.new ≡ rustc.with_suggested (as_said parsed.old) message.now
+        (items_view span_values.now) (map filed changes.now)) }
 {
-    let first = told.helps.len();
-    let put_in = suggestion(alloc, spans)?;
-    told.helps.push(format!(in alloc; "{message}: {put_in}")?)?;
-    if let Some(it) = proposal(alloc, first..told.helps.len(), message, changes)? {
-        told.proposals.push(it)?;
+    let first = parsed.helps.len();
+    let put_in = suggestion(alloc, span_values)?;
+    parsed
+        .helps
+        .push(format!(in alloc; "{message}: {put_in}")?)?;
+    if let Some(it) = proposal(alloc, first..parsed.helps.len(), message, changes)? {
+        parsed.proposals.push(it)?;
     }
     Ok(())
 }
 
-/// Adds a child that puts nothing in: as labels where its places can be shown, and else as a text.
+/// Adds a child that puts nothing in: as labels where its spans can be shown, and else as a text.
 #[tactic(auto, unfolding(crate::specs::Rustc::with_noted))]
-fn push_noted<'v>(alloc: Global, told: &mut Beside<'v>, child: &'v Value) -> Result<(), AllocError>
-    ensures { OnOk result (as_said told.new ≡ rustc.with_noted (as_said told.old) (view child.now)) }
+fn push_noted<'v>(
+    alloc: Global,
+    parsed: &mut Beside<'v>,
+    child: &'v Value,
+) -> Result<(), AllocError>
+    ensures { OnOk result (as_said parsed.new ≡ rustc.with_noted (as_said parsed.old) (view child.now)) }
 {
     let message = words(child, "message");
-    let spans = items(child, "spans");
-    push_noted_labels(&mut told.labels, spans, message)?;
-    push_text(told, child, noted_text(alloc, spans, message)?)
+    let span_values = items(child, "spans");
+    push_noted_labels(&mut parsed.labels, span_values, message)?;
+    push_text(parsed, child, noted_text(alloc, span_values, message)?)
 }
 
-/// Adds what a child says beside its labels, as a help or as a note; nothing, where it has places, and these say
+/// Adds what a child says beside its labels, as a help or as a note; nothing, where it has spans, and these say
 /// all.
-fn push_text(told: &mut Beside<'_>, child: &Value, text: String) -> Result<(), AllocError>
+fn push_text(parsed: &mut Beside<'_>, child: &Value, text: String) -> Result<(), AllocError>
     ensures { OnOk result
-        (as_said told.new ≡ rustc.with_text (as_said told.old) (view child.now) (string_bytes text)) }
+        (as_said parsed.new ≡ rustc.with_text (as_said parsed.old) (view child.now) (string_bytes text)) }
 {
     if text.is_empty() && !has_no_items(items(child, "spans")) {
         return Ok(());
     }
     if has_words(child, "level", "help") {
-        told.helps.push(text)?;
+        parsed.helps.push(text)?;
     } else {
-        told.notes.push(text)?;
+        parsed.notes.push(text)?;
     }
     Ok(())
 }
 
-/// What a note says beside its labels: its message, where none of them says it, and the places that can't
+/// What a note says beside its labels: its message, where none of them says it, and the spans that can't
 /// be shown.
 #[tactic(auto, unfolding(crate::specs::Rustc::noted_text))]
-fn noted_text(alloc: Global, spans: &[Value], message: &str) -> Result<String, AllocError>
-    ensures { IfOk result (λ text. string_bytes text ≡ rustc.noted_text message.now (items_view spans.now)) }
+fn noted_text(alloc: Global, span_values: &[Value], message: &str) -> Result<String, AllocError>
+    ensures { IfOk result (λ text. string_bytes text ≡ rustc.noted_text message.now (items_view span_values.now)) }
 {
-    let beside = if is_said(spans) { "" } else { message };
+    let beside = if is_said(span_values) { "" } else { message };
     let mut text = String::from_str(alloc, beside)?;
-    push_elsewhere(alloc, &mut text, spans)?;
+    push_elsewhere(alloc, &mut text, span_values)?;
     Ok(text)
 }
 
 /// Whether one of these spans says the note.
-fn is_said(spans: &[Value]) -> bool
-    ensures { result ≡ any_item rustc.says_note (items_view spans.now) }
+fn is_said(span_values: &[Value]) -> bool
+    ensures { result ≡ any_item rustc.says_note (items_view span_values.now) }
 {
-    any_says_note(spans)
+    any_says_note(span_values)
 }
 
 /// Whether any of these values is a span that says the note.
-fn any_says_note(spans: &[Value]) -> bool
-    ensures { result ≡ list_any (λ v. rustc.says_note (view v)) spans.now }
+fn any_says_note(span_values: &[Value]) -> bool
+    ensures { result ≡ list_any (λ v. rustc.says_note (view v)) span_values.now }
 {
-    spans.iter().any(|span| says_note(span))
+    span_values.iter().any(|span_value| says_note(span_value))
 }
 
 /// Whether a span of a note is shown, and its label says the note.
 #[tactic(auto, unfolding(crate::specs::Rustc::says_note))]
-fn says_note(span: &Value) -> bool
-    ensures { result ≡ rustc.says_note (view span.now) }
+fn says_note(span_value: &Value) -> bool
+    ensures { result ≡ rustc.says_note (view span_value.now) }
 {
-    is_shown(own_span(span)) && is_true(span, "is_primary") && text(span, "label").is_none()
+    is_shown(own_span_value(span_value))
+        && is_true(span_value, "is_primary")
+        && text(span_value, "label").is_none()
 }
 
-/// Has a text go on with a row for each span that stands for a place that can't be shown.
-fn push_elsewhere(alloc: Global, text: &mut String, spans: &[Value]) -> Result<(), AllocError>
+/// Has a text go on with a row for each span that stands for a span that can't be shown.
+fn push_elsewhere(alloc: Global, text: &mut String, span_values: &[Value]) -> Result<(), AllocError>
     ensures { OnOk result
-        (string_bytes text.new ≡ rustc.with_rows (string_bytes text.old) (items_view spans.now)) }
+        (string_bytes text.new ≡ rustc.with_rows (string_bytes text.old) (items_view span_values.now)) }
 {
-    for span in spans {
-        if let Some(row) = elsewhere_row(alloc, span)? {
+    for span_value in span_values {
+        if let Some(row) = elsewhere_row(alloc, span_value)? {
             push_row(text, row.as_str())?;
         }
     }
     Ok(())
 }
 
-/// Where a span is whose place can't be shown, and what is said of it.
-fn elsewhere_row(alloc: Global, span: &Value) -> Result<Option<String>, AllocError>
-    ensures { IfOk result (λ row. option_map string_bytes row ≡ rustc.elsewhere_row (view span.now)) }
+/// Where a span is whose span can't be shown, and what is said of it.
+fn elsewhere_row(alloc: Global, span_value: &Value) -> Result<Option<String>, AllocError>
+    ensures { IfOk result (λ row. option_map string_bytes row ≡ rustc.elsewhere_row (view span_value.now)) }
 {
-    if !is_elsewhere(span) {
+    if !is_elsewhere(span_value) {
         return Ok(None);
     }
-    let Some(start) = spot(span, "line_start", "column_start") else {
+    let Some(start) = location(span_value, "line_start", "column_start") else {
         return Ok(None);
     };
-    let row = named_place(alloc, words(span, "file_name"), start, words(span, "label"))?;
+    let row = named_span(
+        alloc,
+        words(span_value, "file_name"),
+        start,
+        words(span_value, "label"),
+    )?;
     Ok(Some(row))
 }
 
-/// Whether a span stands for a place that can't be shown.
+/// Whether a span stands for a span that can't be shown.
 #[tactic(auto, unfolding(crate::specs::Rustc::is_elsewhere))]
-fn is_elsewhere(span: &Value) -> bool
-    ensures { result ≡ rustc.is_elsewhere (view span.now) }
+fn is_elsewhere(span_value: &Value) -> bool
+    ensures { result ≡ rustc.is_elsewhere (view span_value.now) }
 {
-    !is_dummy(span) && !is_shown(own_span(span))
+    !is_dummy(span_value) && !is_shown(own_span_value(span_value))
 }

@@ -4,11 +4,11 @@ ghost use Rattle.std.specs.Prelude.{◌≡◌, ◌++◌, map, option_map, string
 ghost use Rattle.std.specs.List.{list_any};
 ghost use Rattle.serde_json.specs.View.{items_view, view};
 ghost use Rattle.ariadne_parse.specs.Fixes.{joint_words, standing};
-ghost use Rattle.ariadne_parse.specs.Members.{any_item, span_end, span_start};
+ghost use Rattle.ariadne_parse.specs.Members.{any_item, span_value_end, span_value_start};
 ghost use Rattle.ariadne_parse.specs.Proposed.{changes_by, filed, proposed, rustc_change, rustc_proposed_by};
 ghost use Rattle.ariadne_parse.specs.Suggested as suggested;
 
-use crate::diagnostic::{Proposal, Spot};
+use crate::diagnostic::{Location, Proposal};
 use crate::fixes::{Covered, change_text, line_text};
 use crate::heads::is_same;
 use crate::json::{has_number, items, number, text, words};
@@ -23,13 +23,13 @@ use std::ops::Range;
 ///
 /// rustc lists the parts of all suggestions of a help one behind the other. A part that begins where the
 /// first one does begins another suggestion.
-pub(crate) fn suggestion(alloc: Global, spans: &[Value]) -> Result<String, AllocError>
-    ensures { IfOk result (λ text. string_bytes text ≡ suggested.parts_behind None (items_view spans.now)) }
+pub(crate) fn suggestion(alloc: Global, span_values: &[Value]) -> Result<String, AllocError>
+    ensures { IfOk result (λ text. string_bytes text ≡ suggested.parts_behind None (items_view span_values.now)) }
 {
     let mut said = String::new(alloc);
     let mut first = None;
-    for span in spans {
-        push_part(alloc, &mut said, &mut first, span)?;
+    for span_value in span_values {
+        push_part(alloc, &mut said, &mut first, span_value)?;
     }
     Ok(said)
 }
@@ -61,14 +61,14 @@ pub(crate) fn proposal(
 #[tactic(auto, using(crate::proofs::Values::changes_by_values))]
 pub(crate) fn changes_of<'a>(
     alloc: Global,
-    spans: &'a [Value],
+    span_values: &'a [Value],
 ) -> Result<Vec<FileChange<'a>>, AllocError>
     ensures { IfOk result (λ changes.
-        map filed changes.items ≡ changes_by rustc_change (items_view spans.now)) }
+        map filed changes.items ≡ changes_by rustc_change (items_view span_values.now)) }
 {
     let mut changes = Vec::new(alloc);
-    for span in spans {
-        if let Some(change) = change_of(span) {
+    for span_value in span_values {
+        if let Some(change) = change_of(span_value) {
             changes.push(change)?;
         }
     }
@@ -76,14 +76,14 @@ pub(crate) fn changes_of<'a>(
 }
 
 /// The change that a span suggests, if it does.
-fn change_of(span: &Value) -> Option<FileChange<'_>>
-    ensures { option_map filed result ≡ rustc_change (view span.now) }
+fn change_of(span_value: &Value) -> Option<FileChange<'_>>
+    ensures { option_map filed result ≡ rustc_change (view span_value.now) }
 {
-    let put_in = text(span, "suggested_replacement")?;
+    let put_in = text(span_value, "suggested_replacement")?;
     Some(FileChange {
-        file: words(span, "file_name"),
-        start: start_of(span),
-        end: end_of(span),
+        file: words(span_value, "file_name"),
+        start: start_of(span_value),
+        end: end_of(span_value),
         put_in,
     })
 }
@@ -93,18 +93,18 @@ fn change_of(span: &Value) -> Option<FileChange<'_>>
 fn push_part(
     alloc: Global,
     said: &mut String,
-    first: &mut Option<Spot>,
-    span: &Value,
+    first: &mut Option<Location>,
+    span_value: &Value,
 ) -> Result<(), AllocError>
     ensures said { OnOk result (string_bytes said.new
-        ≡ string_bytes said.old ++ suggested.said_behind first.old (view span.now)) }
-    ensures first { OnOk result (first.new ≡ suggested.first_behind first.old (view span.now)) }
+        ≡ string_bytes said.old ++ suggested.said_behind first.old (view span_value.now)) }
+    ensures first { OnOk result (first.new ≡ suggested.first_behind first.old (view span_value.now)) }
 {
-    let Some(put_in) = text(span, "suggested_replacement") else {
+    let Some(put_in) = text(span_value, "suggested_replacement") else {
         return Ok(());
     };
-    let start = start_of(span);
-    let part = part_text(alloc, span, put_in)?;
+    let start = start_of(span_value);
+    let part = part_text(alloc, span_value, put_in)?;
     said.push_str(joint(*first, start))?;
     said.push_str(part.as_str())?;
     *first = first.or(Some(start));
@@ -112,7 +112,7 @@ fn push_part(
 }
 
 /// What stands in front of a part that begins here, where the first part of all is known.
-fn joint(first: Option<Spot>, start: Spot) -> &'static str
+fn joint(first: Option<Location>, start: Location) -> &'static str
     ensures { result.now ≡ joint_words first start }
 {
     match first {
@@ -124,51 +124,53 @@ fn joint(first: Option<Spot>, start: Spot) -> &'static str
 
 /// What one part says.
 #[tactic(auto, unfolding(crate::specs::Suggested::part_words))]
-fn part_text(alloc: Global, span: &Value, put_in: &str) -> Result<String, AllocError>
-    ensures { IfOk result (λ text. string_bytes text ≡ suggested.part_words (view span.now) put_in.now) }
+fn part_text(alloc: Global, span_value: &Value, put_in: &str) -> Result<String, AllocError>
+    ensures { IfOk result (λ text. string_bytes text ≡ suggested.part_words (view span_value.now) put_in.now) }
 {
-    let start = start_of(span);
-    if is_line_put(span, put_in) {
+    let start = start_of(span_value);
+    if is_line_put(span_value, put_in) {
         line_text(alloc, start.line, put_in.trim_end())
     } else {
-        change_text(alloc, start, &covered(span), kept_text(put_in))
+        change_text(alloc, start, &covered(span_value), kept_text(put_in))
     }
 }
 
 /// Where a span begins. One without a line begins at line 0, which no file has.
-pub(crate) fn start_of(span: &Value) -> Spot
-    ensures { result ≡ span_start (view span.now) }
+pub(crate) fn start_of(span_value: &Value) -> Location
+    ensures { result ≡ span_value_start (view span_value.now) }
 {
-    Spot {
-        line: number(span, "line_start").unwrap_or(0),
-        column: number(span, "column_start"),
+    Location {
+        line: number(span_value, "line_start").unwrap_or(0),
+        column: number(span_value, "column_start"),
     }
 }
 
 /// Where a span ends.
-pub(crate) fn end_of(span: &Value) -> Spot
-    ensures { result ≡ span_end (view span.now) }
+pub(crate) fn end_of(span_value: &Value) -> Location
+    ensures { result ≡ span_value_end (view span_value.now) }
 {
-    Spot {
-        line: number(span, "line_end").unwrap_or(0),
-        column: number(span, "column_end"),
+    Location {
+        line: number(span_value, "line_end").unwrap_or(0),
+        column: number(span_value, "column_end"),
     }
 }
 
 /// Whether a span puts in a line: the text ends its line, nothing but blanks stands in front of it, and it takes
-/// the place of nothing.
-fn is_line_put(span: &Value, put_in: &str) -> bool
-    ensures { result ≡ suggested.is_line_put (view span.now) put_in.now }
+/// the span of nothing.
+fn is_line_put(span_value: &Value, put_in: &str) -> bool
+    ensures { result ≡ suggested.is_line_put (view span_value.now) put_in.now }
 {
-    closes_with(put_in, "\n") && is_same(start_of(span), end_of(span)) && is_first(span)
+    closes_with(put_in, "\n")
+        && is_same(start_of(span_value), end_of(span_value))
+        && is_first(span_value)
 }
 
 /// Whether nothing but blanks stands in front of a span in its line.
 #[tactic(auto, unfolding(crate::specs::Suggested::is_first))]
-fn is_first(span: &Value) -> bool
-    ensures { result ≡ suggested.is_first (view span.now) }
+fn is_first(span_value: &Value) -> bool
+    ensures { result ≡ suggested.is_first (view span_value.now) }
 {
-    has_number(span, "column_start", 1) || is_blank_before(items(span, "text"))
+    has_number(span_value, "column_start", 1) || is_blank_before(items(span_value, "text"))
 }
 
 /// Whether the first of these quoted lines has nothing but blanks in front of its span.
@@ -198,14 +200,14 @@ fn before_feeds(text: &str) -> &str
 
 /// What a span covers, as far as rustc quotes it.
 #[tactic(auto, unfolding(crate::specs::Suggested::covered))]
-fn covered(span: &Value) -> Covered<'_>
-    ensures { standing result ≡ suggested.covered (view span.now) }
+fn covered(span_value: &Value) -> Covered<'_>
+    ensures { standing result ≡ suggested.covered (view span_value.now) }
 {
-    let Some((first, others)) = items(span, "text").split_first() else {
+    let Some((first, others)) = items(span_value, "text").split_first() else {
         return Covered::Unnamed;
     };
     if is_any_highlighted(others) {
-        Covered::UpTo(end_of(span))
+        Covered::UpTo(end_of(span_value))
     } else {
         covered_text(highlighted(first))
     }
@@ -247,14 +249,14 @@ fn highlighted(line: &Value) -> &str
 
 /// The part of a quoted line in front of what its span covers.
 fn in_front(line: &Value) -> &str
-    ensures { result.now ≡ suggested.before_span (view line.now) }
+    ensures { result.now ≡ suggested.before_span_value (view line.now) }
 {
     front_characters(quoted_text(line), before(line))
 }
 
 /// A quoted line from where its span begins.
 fn from_start(line: &Value) -> &str
-    ensures { result.now ≡ suggested.from_span (view line.now) }
+    ensures { result.now ≡ suggested.from_span_value (view line.now) }
 {
     behind_characters(quoted_text(line), before(line))
 }

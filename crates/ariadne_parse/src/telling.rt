@@ -5,24 +5,24 @@ ghost use Rattle.std.specs.Prelude.{is_some, option_map, IfOk, IfSome, IsSomeAnd
 ghost use Rattle.serde_json.specs.Data.{depth as nesting};
 ghost use Rattle.serde_json.specs.Read.{max_depth};
 ghost use Rattle.serde_json.specs.View.{view};
-ghost use Rattle.ariadne_parse.specs.ParsedLines.{begins_as_json as is_begun_as_json, tells_value};
-ghost use Rattle.ariadne_parse.specs.ParsedLines.{handed_in, reads_rustc as is_rustc_read, reads_text};
-ghost use Rattle.ariadne_parse.specs.ParsedLines.{is_of_rust as is_rust_file, counting_in as counting_of_head, value_in};
-ghost use Rattle.ariadne_parse.specs.ParsedLines.{AreTold, IsHeldIfAny, IsTold, IsToldOfHead, IsToldOfValue};
+ghost use Rattle.ariadne_parse.specs.ParsedDiagnostics.{begins_as_json as is_begun_as_json, tells_value};
+ghost use Rattle.ariadne_parse.specs.ParsedDiagnostics.{handed_in, reads_rustc as is_rustc_read, reads_text};
+ghost use Rattle.ariadne_parse.specs.ParsedDiagnostics.{is_of_rust as is_rust_file, counting_in as counting_of_head, value_in};
+ghost use Rattle.ariadne_parse.specs.ParsedDiagnostics.{AreParsed, IsHeldIfAny, IsParsed, IsParsedOfHead, IsParsedOfValue};
 ghost use Rattle.ariadne_parse.specs.Sent.{WasSent};
 ghost use Rattle.ariadne_parse.specs.Heads.{head_of_line};
-ghost use Rattle.ariadne_parse.specs.ToldLines.{head_told};
+ghost use Rattle.ariadne_parse.specs.ParsedLines.{head_parsed};
 ghost use Rattle.ariadne_parse.specs.declared.telling.Format.TheVariants.{Auto, Rustc, Gcc, Report};
 
 use crate::cargo::{handed_on, is_of_cargo};
 use crate::counting::Counting;
 use crate::diagnostic::Diagnostic;
-use crate::gcc::{gcc_messages, told_by_gcc};
-use crate::heads::told_by_line;
+use crate::gcc::{gcc_messages, parsed_by_gcc};
+use crate::heads::parsed_by_line;
 use crate::json::copied_text;
-use crate::lines::{ToldLine, line_told};
-use crate::report::{is_report, told_by_report};
-use crate::rustc::{rustc_message, told_by_rustc};
+use crate::lines::{ParsedLine, line_parsed};
+use crate::report::{is_report, parsed_by_report};
+use crate::rustc::{parsed_by_rustc, rustc_message};
 use crate::sent::Sent;
 use crate::unit::Unit;
 use ariadne_json::read_value;
@@ -83,17 +83,17 @@ pub enum Answer {
 /// What a line tells. A message that cargo hands on is held in `sent`, and is dropped where it was there.
 ///
 /// The line has no line feed at its end. On `Err` there was no memory.
-pub fn told(
+pub fn parsed(
     alloc: Global,
     reading: Reading,
     sent: &mut Sent,
     line: &str,
 ) -> Result<Answer, AllocError>
-    ensures { IfOk result (λ told. IsTold reading line.now sent.old sent.new told) }
+    ensures { IfOk result (λ parsed. IsParsed reading line.now sent.old sent.new parsed) }
 {
     match value_of(alloc, line)? {
-        Some(value) => told_by_value(alloc, reading.format, sent, &value),
-        None => told_by_text(alloc, reading, line),
+        Some(value) => parsed_by_value(alloc, reading.format, sent, &value),
+        None => parsed_by_text(alloc, reading, line),
     }
 }
 
@@ -116,9 +116,9 @@ fn value_of(alloc: Global, line: &str) -> Result<Option<Value>, AllocError>
 }
 
 /// What a line of text tells.
-fn told_by_text(alloc: Global, reading: Reading, line: &str) -> Result<Answer, AllocError>
-    ensures { IfOk result (λ told. IsToldOfHead reading.counting
-        (if reads_text reading.format then head_of_line line.now else None) told) }
+fn parsed_by_text(alloc: Global, reading: Reading, line: &str) -> Result<Answer, AllocError>
+    ensures { IfOk result (λ parsed. IsParsedOfHead reading.counting
+        (if reads_text reading.format then head_of_line line.now else None) parsed) }
 {
     if reading.reads_text() {
         line_in(alloc, reading.counting, line)
@@ -129,23 +129,23 @@ fn told_by_text(alloc: Global, reading: Reading, line: &str) -> Result<Answer, A
 
 /// What a line of text tells that is read.
 fn line_in(alloc: Global, counting: Counting, line: &str) -> Result<Answer, AllocError>
-    ensures { IfOk result (λ told. IsToldOfHead counting (head_of_line line.now) told) }
+    ensures { IfOk result (λ parsed. IsParsedOfHead counting (head_of_line line.now) parsed) }
 {
-    let Some(it) = line_told(line) else {
+    let Some(it) = line_parsed(line) else {
         return Ok(Answer::Nothing);
     };
-    let told = told_by_line(alloc, &it, counting_in(&it, counting))?;
+    let parsed = parsed_by_line(alloc, &it, counting_in(&it, counting))?;
     Ok(if it.is_note() {
-        Answer::Note(told)
+        Answer::Note(parsed)
     } else {
-        Answer::Head(told)
+        Answer::Head(parsed)
     })
 }
 
 /// How the columns of a line count, where those of others count so: those of rustc, which alone reads Rust, count
 /// characters, and so do those of some codes; others count from 0.
-fn counting_in(it: &ToldLine<'_>, counting: Counting) -> Counting
-    ensures { result ≡ counting_of_head (head_told it.now) counting }
+fn counting_in(it: &ParsedLine<'_>, counting: Counting) -> Counting
+    ensures { result ≡ counting_of_head (head_parsed it.now) counting }
 {
     let is_from_zero = it.kind.is_from_zero;
     if is_of_rust(it.file) || it.kind.has_characters {
@@ -169,26 +169,26 @@ fn is_of_rust(file: &str) -> bool
 }
 
 /// A list of one diagnostic.
-fn one(alloc: Global, told: Diagnostic) -> Result<Vec<Diagnostic>, AllocError>
-    ensures { IfOk result (λ list. list.items ≡ told ∷ []) }
+fn one(alloc: Global, parsed: Diagnostic) -> Result<Vec<Diagnostic>, AllocError>
+    ensures { IfOk result (λ list. list.items ≡ parsed ∷ []) }
 {
     let mut list = Vec::new(alloc);
-    list.push(told)?;
+    list.push(parsed)?;
     Ok(list)
 }
 
 /// What a value tells. A message that cargo hands on is held in `sent`, and is dropped where it was there.
 ///
 /// On `Err` there was no memory.
-pub fn told_by_value(
+pub fn parsed_by_value(
     alloc: Global,
     format: Format,
     sent: &mut Sent,
     value: &Value,
 ) -> Result<Answer, AllocError>
     requires { nesting (view value.now) ≤ max_depth }
-    ensures { IfOk result (λ told.
-        IsToldOfValue format (view value.now) sent.old sent.new told) }
+    ensures { IfOk result (λ parsed.
+        IsParsedOfValue format (view value.now) sent.old sent.new parsed) }
 {
     if is_again(format, sent, value)? {
         return Ok(Answer::Dropped);
@@ -234,8 +234,8 @@ fn diagnostics_in(
     format: Format,
     value: &Value,
 ) -> Result<Option<Vec<Diagnostic>>, AllocError>
-    ensures told { IfOk result (λ told. is_some told ≡ tells_value format (view value.now)) }
-    ensures all { IfOk result (λ told. IfSome told (λ all. AreTold (view value.now) all.items)) }
+    ensures parsed { IfOk result (λ parsed. is_some parsed ≡ tells_value format (view value.now)) }
+    ensures all { IfOk result (λ parsed. IfSome parsed (λ all. AreParsed (view value.now) all.items)) }
 {
     match format {
         Format::Auto => any_in(alloc, value),
@@ -248,8 +248,8 @@ fn diagnostics_in(
 
 /// What a value of any form tells.
 fn any_in(alloc: Global, value: &Value) -> Result<Option<Vec<Diagnostic>>, AllocError>
-    ensures told { IfOk result (λ told. is_some told ≡ tells_value Auto (view value.now)) }
-    ensures all { IfOk result (λ told. IfSome told (λ all. AreTold (view value.now) all.items)) }
+    ensures parsed { IfOk result (λ parsed. is_some parsed ≡ tells_value Auto (view value.now)) }
+    ensures all { IfOk result (λ parsed. IfSome parsed (λ all. AreParsed (view value.now) all.items)) }
 {
     if let Some(all) = rustc_in(alloc, value)? {
         return Ok(Some(all));
@@ -262,35 +262,35 @@ fn any_in(alloc: Global, value: &Value) -> Result<Option<Vec<Diagnostic>>, Alloc
 
 /// What a value tells as rustc and cargo write it.
 fn rustc_in(alloc: Global, value: &Value) -> Result<Option<Vec<Diagnostic>>, AllocError>
-    ensures told { IfOk result (λ told. is_some told ≡ tells_value Rustc (view value.now)) }
-    ensures all { IfOk result (λ told. IfSome told (λ all. AreTold (view value.now) all.items)) }
+    ensures parsed { IfOk result (λ parsed. is_some parsed ≡ tells_value Rustc (view value.now)) }
+    ensures all { IfOk result (λ parsed. IfSome parsed (λ all. AreParsed (view value.now) all.items)) }
 {
     let Some(message) = rustc_message(value) else {
         return Ok(None);
     };
     let manifest = copied_text(alloc, value, "manifest_path")?;
-    let told = told_by_rustc(alloc, message, manifest)?;
-    Ok(Some(one(alloc, told)?))
+    let parsed = parsed_by_rustc(alloc, message, manifest)?;
+    Ok(Some(one(alloc, parsed)?))
 }
 
 /// What a value tells as gcc writes it.
 fn gcc_in(alloc: Global, value: &Value) -> Result<Option<Vec<Diagnostic>>, AllocError>
-    ensures told { IfOk result (λ told. is_some told ≡ tells_value Gcc (view value.now)) }
-    ensures all { IfOk result (λ told. IfSome told (λ all. AreTold (view value.now) all.items)) }
+    ensures parsed { IfOk result (λ parsed. is_some parsed ≡ tells_value Gcc (view value.now)) }
+    ensures all { IfOk result (λ parsed. IfSome parsed (λ all. AreParsed (view value.now) all.items)) }
 {
     match gcc_messages(value) {
-        Some(messages) => Ok(Some(told_by_gcc(alloc, messages)?)),
+        Some(messages) => Ok(Some(parsed_by_gcc(alloc, messages)?)),
         None => Ok(None),
     }
 }
 
 /// What a value tells in the program's own form.
 fn report_in(alloc: Global, value: &Value) -> Result<Option<Vec<Diagnostic>>, AllocError>
-    ensures told { IfOk result (λ told. is_some told ≡ tells_value Report (view value.now)) }
-    ensures all { IfOk result (λ told. IfSome told (λ all. AreTold (view value.now) all.items)) }
+    ensures parsed { IfOk result (λ parsed. is_some parsed ≡ tells_value Report (view value.now)) }
+    ensures all { IfOk result (λ parsed. IfSome parsed (λ all. AreParsed (view value.now) all.items)) }
 {
     if !is_report(value) {
         return Ok(None);
     }
-    Ok(Some(one(alloc, told_by_report(alloc, value)?)?))
+    Ok(Some(one(alloc, parsed_by_report(alloc, value)?)?))
 }

@@ -1,9 +1,9 @@
 //! What the rows that gcc and clang write for programs propose, as changes of files.
 
 use crate::comparing::assert_text_of;
-use crate::told_proposals::proposals_text;
+use crate::parsed_proposals::proposals_text;
 use ariadne_blocks::{Block, Line, QuotedFile};
-use ariadne_parse::{Answer, Columns, Counting, Diagnostic, Format, Reading, Sent, Unit, told};
+use ariadne_parse::{Answer, Columns, Counting, Diagnostic, Format, Reading, Sent, Unit, parsed};
 use std::alloc::{AllocError, Global};
 use std::slice;
 
@@ -133,9 +133,9 @@ const QUOTING: &[(&[&str], &str)] = &[
 /// The character of its line, from 0, that a diagnostic points at, if its file is held.
 fn caret_of(file: Option<QuotedFile<'_>>, it: &Diagnostic) -> Option<usize> {
     let columns = file?.columns;
-    let start = it.places.first()?.start;
+    let start = it.spans.first()?.start;
     let offset = columns.offset(Unit::Byte, start.line, start.column?)?;
-    Some(columns.spot_at(Unit::Char, offset).1.saturating_sub(1))
+    Some(columns.location_at(Unit::Char, offset).1.saturating_sub(1))
 }
 
 /// Takes in a line: as a note, or as a row.
@@ -145,7 +145,7 @@ fn take(
     file: Option<QuotedFile<'_>>,
     text: &str,
 ) -> Result<(), AllocError> {
-    if let Answer::Note(note) = told(alloc, READING, &mut Sent::new(alloc), text)? {
+    if let Answer::Note(note) = parsed(alloc, READING, &mut Sent::new(alloc), text)? {
         let caret = caret_of(file, &note);
         return block.add_note(alloc, note, caret);
     }
@@ -167,7 +167,7 @@ fn block_text(
     let Some((head, others)) = lines.split_first() else {
         return Ok(String::new(alloc));
     };
-    let Answer::Head(it) = told(alloc, READING, &mut Sent::new(alloc), *head)? else {
+    let Answer::Head(it) = parsed(alloc, READING, &mut Sent::new(alloc), *head)? else {
         return Ok(String::new(alloc));
     };
     let caret = caret_of(file, &it);

@@ -92,8 +92,8 @@ fn taken_text(alloc: Global, taken: &Taken<'_>) -> Result<String, AllocError> {
         Taken::Note(said) => format!(in alloc; "note {said}"),
         Taken::Help(said) => format!(in alloc; "help {said}"),
         Taken::More(said) => format!(in alloc; "more {said}"),
-        Taken::At(place) => format!(in alloc; "at {place}"),
-        Taken::Elsewhere(place) => format!(in alloc; "elsewhere {place}"),
+        Taken::At(span) => format!(in alloc; "at {span}"),
+        Taken::Elsewhere(span) => format!(in alloc; "elsewhere {span}"),
     }
 }
 
@@ -112,7 +112,7 @@ fn learned(
     taken_text(alloc, &taken)
 }
 
-/// Asserts what is learned of the lines behind the head of a place.
+/// Asserts what is learned of the lines behind the head of a span.
 pub fn assert_learned(
     rt: &(impl AllocGlobal + Abort),
     file: &[&str],

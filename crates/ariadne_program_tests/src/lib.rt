@@ -19,6 +19,12 @@ mod lint_refused;
 #[cfg(test)]
 mod outcome;
 #[cfg(test)]
+mod parsed_lines;
+#[cfg(test)]
+mod parsed_others;
+#[cfg(test)]
+mod parsed_proposals;
+#[cfg(test)]
 mod show;
 #[cfg(test)]
 mod show_refused;
@@ -30,9 +36,3 @@ mod snippets;
 mod snippets_of_rustc;
 #[cfg(test)]
 mod suggested;
-#[cfg(test)]
-mod told_lines;
-#[cfg(test)]
-mod told_others;
-#[cfg(test)]
-mod told_proposals;

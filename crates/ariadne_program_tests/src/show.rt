@@ -4,7 +4,7 @@ ghost use Rattle.std.specs.Prelude.{◌<◌};
 
 use crate::outcome::Outcome;
 use ariadne_show::{
-    Asked, FailOn, Fault, Options, Status, Streams, Sum, Width, read_words, show, tell_fault,
+    FailOn, Fault, Options, Request, Status, Streams, Sum, Width, read_words, show, tell_fault,
 };
 use ariadne_testing::{Folder, Given, Taker, refuse, texts};
 use std::alloc::{AllocError, Global};
@@ -18,7 +18,7 @@ pub const FILE: &[u8] = b"let x = y;\nlast";
 /// The options that these words ask for, in a pipe.
 pub fn options_of<'a>(rt: &(impl AllocGlobal + Abort), words: &'a [String]) -> Options<'a> {
     match read_words(rt.alloc(), words) {
-        Ok(Asked::Show { mut options, .. }) => {
+        Ok(Request::Show { mut options, .. }) => {
             if let Width::Columns(columns) = options.width {
                 options.style.width = columns;
             }
@@ -131,7 +131,7 @@ fn what_tells_nothing_goes_through_as_it_is(rt: HostRuntime) {
     assert_shown(&rt, &[], end, Status::Shown, b"")
 }
 
-/// Diagnostics about places that a file lacks, and what is shown of each, with a `@` for its path.
+/// Diagnostics about spans that a file lacks, and what is shown of each, with a `@` for its path.
 const LACKING: &[(&str, &str)] = &[
     (
         "@:9:1: error: m\n",

@@ -19,7 +19,7 @@ const NO_MEMORY: &[u8] = b"ariadne-show: no memory\n";
 /// What tools print, with a `@` for the folder of its files: JSON of cargo's about a file that is gone,
 /// with half of a pair that stands alone; a line of make's; a report with a name of its own; gcc's JSON with a
 /// fix-it; gcc's text with lines in front, a snippet and notes, and with rows that tell programs what to change;
-/// rustc's text, with a message of two rows and a place that isn't here; a line that its file lacks; mypy's
+/// rustc's text, with a message of two rows and a span that isn't here; a line that its file lacks; mypy's
 /// text; and a line that passes.
 ///
 /// The longest line stands first. Where there is no memory for a line, a diagnostic that is held is shown

@@ -49,7 +49,7 @@ const SHORT: &[(&str, &str)] = &[
         "@:1:1: error: c\n       Fresher ones\n       Dirty x v0.1.0\n       Fixed src/lib.rs\n",
         "@:1:1: error: c\u{240a}Fresher ones\n       Dirty x v0.1.0\n       Fixed src/lib.rs\n1 error\n",
     ),
-    // a head without a kind, and one whose place has no column
+    // a head without a kind, and one whose span has no column
     (
         "@:1:1: c d: e\n     f\n@:1: error: g\n       h\n",
         "@:1:1: error: c d: e\n     f\n@:1:1: error: g\n       h\n2 errors\n",

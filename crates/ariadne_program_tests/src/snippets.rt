@@ -345,9 +345,9 @@ fn marks_in_white_space_of_mypy(rt: HostRuntime) {
 /// A note of clang-tidy's.
 const OVERLAPS: &str = "note: this fix will not be applied because it overlaps with another fix";
 
-/// A note of clang-tidy and g++ may name no place: it stands behind marks, or behind what is to be put there.
+/// A note of clang-tidy and g++ may name no span: it stands behind marks, or behind what is to be put there.
 #[test]
-fn notes_without_a_place(rt: HostRuntime) {
+fn notes_without_a_span(rt: HostRuntime) {
     assert_learned(
         &rt,
         &["    if (n > 3)"],

@@ -3,5 +3,5 @@ pub mod Fixing
 pub mod SarifFlows
 pub mod SarifLogs
 pub mod SarifMessages
-pub mod SarifPlaces
+pub mod SarifSpans
 pub mod Uris

@@ -7,16 +7,16 @@ use Rattle.std.specs.Str.{bytes_eq}
 use Rattle.serde_json.specs.Data.{Data, Items, no_items, item}
 use Rattle.serde_json.specs.Find.{at, get}
 use Rattle.ariadne_parse.specs.Members.{all_items, flat_items, has_none, has_words, items_in, list_at, number_at, text_at, words_at}
-use Rattle.ariadne_parse.specs.Places.{Seen}
+use Rattle.ariadne_parse.specs.Spans.{Seen}
 use Rattle.ariadne_parse.specs.Proposed.{Edit}
 use Rattle.ariadne_parse.specs.Read.{Read}
 use Rattle.ariadne_parse.specs.TextPieces.{begins_with, contains}
 use Rattle.ariadne_parse.specs.declared.diagnostic.Severity.{Severity}
 use Rattle.ariadne_parse.specs.declared.diagnostic.Severity.TheVariants.{Error, Warning, Note}
 use Rattle.ariadne_sarif.specs.DocumentParts.{bare, coded, edits_of, is_list_of, number_within, text_within, with_fix}
-use Rattle.ariadne_sarif.specs.SarifFlows.{step_places, steps_of}
+use Rattle.ariadne_sarif.specs.SarifFlows.{step_spans, steps_of}
 use Rattle.ariadne_sarif.specs.SarifMessages.{message_in, message_text, said}
-use Rattle.ariadne_sarif.specs.SarifPlaces.{file_path, places_at, replacement_edit, rows_at, unit_of}
+use Rattle.ariadne_sarif.specs.SarifSpans.{file_path, spans_at, replacement_edit, rows_at, unit_of}
 
 -- ---- which values are one
 
@@ -141,8 +141,8 @@ are_suppressing items = not (has_none items) && all_items is_accepted items
 abbrev pub is_suppressed : Data → Bool
 is_suppressed d = are_suppressing (items_in (list_at (codes "suppressions") d))
 
-abbrev pub is_told : Data → Bool
-is_told d = not (is_gone d) && not (has_passed d) && not (is_suppressed d)
+abbrev pub is_parsed : Data → Bool
+is_parsed d = not (is_gone d) && not (has_passed d) && not (is_suppressed d)
 
 -- ---- fixes
 
@@ -157,22 +157,22 @@ abbrev pub edits_in : Data → List Edit
 edits_in d = edits_of replacement_edit (items_in (list_at (codes "replacements") d))
 
 abbrev pub with_change : Data → List ℕ → Data → Read → Read
-with_change run why d told =
+with_change run why d parsed =
     with_fix why (changed_path run d) (unit_of run)
-    (edits_in d) told
+    (edits_in d) parsed
 
 abbrev pub with_changes : Data → List ℕ → Items → Read → Read
-with_changes run why no_items told = told
-with_changes run why (item d items) told = with_changes run why items (with_change run why d told)
+with_changes run why no_items parsed = parsed
+with_changes run why (item d items) parsed = with_changes run why items (with_change run why d parsed)
 
 -- a fix, and several
 abbrev pub with_one : Data → Data → Read → Read
-with_one run fix told =
-    with_changes run (why_of fix) (items_in (list_at (codes "artifactChanges") fix)) told
+with_one run fix parsed =
+    with_changes run (why_of fix) (items_in (list_at (codes "artifactChanges") fix)) parsed
 
 abbrev pub with_fixes : Data → Items → Read → Read
-with_fixes run no_items told = told
-with_fixes run (item fix fixes) told = with_fixes run fixes (with_one run fix told)
+with_fixes run no_items parsed = parsed
+with_fixes run (item fix fixes) parsed = with_fixes run fixes (with_one run fix parsed)
 
 -- ---- results
 
@@ -182,25 +182,25 @@ own_of d = items_in (list_at (codes "locations") d)
 abbrev pub related_of : Data → Items
 related_of d = items_in (list_at (codes "relatedLocations") d)
 
--- the places of its locations
-abbrev pub located_places : Data → Data → List Seen
-located_places run d = places_at run true (own_of d) ++ places_at run false (related_of d)
+-- the spans of its locations
+abbrev pub located_spans : Data → Data → List Seen
+located_spans run d = spans_at run true (own_of d) ++ spans_at run false (related_of d)
 
--- with these, the places of its steps, and a row for each location without a place, in front of its fixes
+-- with these, the spans of its steps, and a row for each location without a span, in front of its fixes
 abbrev pub unfixed : Data → Data → Read
 unfixed run d = record (coded (code_of run d) (bare (severity_of run d) (text_of run d))) {
-  places = located_places run d ++ step_places run 1 (steps_of d);
+  spans = located_spans run d ++ step_spans run 1 (steps_of d);
   notes = rows_at run (own_of d) ++ rows_at run (related_of d);
 }
 
 abbrev pub result_read : Data → Data → Read
 result_read run d = with_fixes run (items_in (list_at (codes "fixes") d)) (unfixed run d)
 
-abbrev pub result_told : Data → Data → List Read
-result_told run d = if is_told d then result_read run d ∷ [] else []
+abbrev pub result_parsed : Data → Data → List Read
+result_parsed run d = if is_parsed d then result_read run d ∷ [] else []
 
-abbrev pub run_told : Data → List Read
-run_told run = flat_items (result_told run) (results_of run)
+abbrev pub run_parsed : Data → List Read
+run_parsed run = flat_items (result_parsed run) (results_of run)
 
-abbrev pub sarif_told : Data → List Read
-sarif_told d = flat_items run_told (items_in (list_at (codes "runs") d))
+abbrev pub sarif_parsed : Data → List Read
+sarif_parsed d = flat_items run_parsed (items_in (list_at (codes "runs") d))

@@ -10,7 +10,7 @@ ghost use Rattle.ariadne_sarif.specs.Fixing.{are_changes as are_all_changes, edi
 ghost use Rattle.ariadne_sarif.specs.DocumentParts as parts;
 
 use ariadne_parse::fixes::{Covered, change_text, push_reasoned};
-use ariadne_parse::{Change, Diagnostic, Proposal, Spot, Unit};
+use ariadne_parse::{Change, Diagnostic, Location, Proposal, Unit};
 use serde_json::Value;
 use std::alloc::{AllocError, Global};
 
@@ -18,9 +18,9 @@ use std::alloc::{AllocError, Global};
 #[derive(Clone, Copy)]
 pub struct Piece<'v> {
     /// Where the piece begins.
-    pub start: Spot,
+    pub start: Location,
     /// In front of what it ends.
-    pub end: Spot,
+    pub end: Location,
     /// The text.
     pub put_in: &'v str,
 }
@@ -56,14 +56,17 @@ pub fn changes_of<C: TellsChange>(
         ≡ parts.edits_of C.edit (items_view values.now)) }
 {
     if are_changes::<C>(values) {
-        told_changes::<C>(alloc, values)
+        parsed_changes::<C>(alloc, values)
     } else {
         Ok(Vec::new(alloc))
     }
 }
 
 /// The changes of those values that tell one.
-fn told_changes<C: TellsChange>(alloc: Global, values: &[Value]) -> Result<Vec<Change>, AllocError>
+fn parsed_changes<C: TellsChange>(
+    alloc: Global,
+    values: &[Value],
+) -> Result<Vec<Change>, AllocError>
     ensures { IfOk result (λ changes. map edit_of changes.items
         ≡ parts.edits_by C.edit (items_view values.now)) }
 {
@@ -90,41 +93,41 @@ pub fn change(alloc: Global, piece: Piece<'_>) -> Result<Change, AllocError>
 /// Adds a fix to a diagnostic: these changes of a file, and why; or why alone, where there are none.
 pub fn push_fix(
     alloc: Global,
-    told: &mut Diagnostic,
+    parsed: &mut Diagnostic,
     why: &str,
     file: &str,
     unit: Unit,
     changes: Vec<Change>,
 ) -> Result<(), AllocError>
-    ensures { OnOk result (read told.new
-        ≡ parts.with_fix why.now file.now unit (map edit_of changes.items) (read told.old)) }
+    ensures { OnOk result (read parsed.new
+        ≡ parts.with_fix why.now file.now unit (map edit_of changes.items) (read parsed.old)) }
 {
     if changes.is_empty() {
-        push_reason(alloc, &mut told.helps, why)
+        push_reason(alloc, &mut parsed.helps, why)
     } else {
-        push_edits(alloc, told, why, file, unit, changes)
+        push_edits(alloc, parsed, why, file, unit, changes)
     }
 }
 
 /// Adds changes of a file to a diagnostic, as one way, and why. The same is said by helps.
 fn push_edits(
     alloc: Global,
-    told: &mut Diagnostic,
+    parsed: &mut Diagnostic,
     why: &str,
     file: &str,
     unit: Unit,
     changes: Vec<Change>,
 ) -> Result<(), AllocError>
-    ensures { OnOk result (read told.new
-        ≡ parts.with_edits why.now file.now unit (map edit_of changes.items) (read told.old)) }
+    ensures { OnOk result (read parsed.new
+        ≡ parts.with_edits why.now file.now unit (map edit_of changes.items) (read parsed.old)) }
 {
-    let first = told.helps.len();
+    let first = parsed.helps.len();
     let words = words_of(alloc, changes.as_slice())?;
-    push_reasoned(alloc, &mut told.helps, why, words)?;
+    push_reasoned(alloc, &mut parsed.helps, why, words)?;
     let mut ways = Vec::new(alloc);
     ways.push(changes)?;
-    told.proposals.push(Proposal {
-        helps: first..told.helps.len(),
+    parsed.proposals.push(Proposal {
+        helps: first..parsed.helps.len(),
         why: String::from_str(alloc, why)?,
         file: String::from_str(alloc, file)?,
         unit,

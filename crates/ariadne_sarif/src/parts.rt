@@ -1,15 +1,15 @@
-//! Parts of documents that several forms have: members of members, spots, and diagnostics of a file.
+//! Parts of documents that several forms have: members of members, locations, and diagnostics of a file.
 
 ghost use Rattle.std.specs.Prelude.{◌≡◌, option_map, IfOk, Some};
 ghost use Rattle.serde_json.specs.View.{items_view, view};
 ghost use Rattle.serde_json.specs.Find.{as_array};
-ghost use Rattle.ariadne_parse.specs.Members.{end_before, items_in, spot_at};
-ghost use Rattle.ariadne_parse.specs.Places.{seen};
+ghost use Rattle.ariadne_parse.specs.Members.{end_before, items_in, location_at};
+ghost use Rattle.ariadne_parse.specs.Spans.{seen};
 ghost use Rattle.ariadne_parse.specs.Read.{read};
 ghost use Rattle.ariadne_sarif.specs.DocumentParts as parts;
 
 use ariadne_parse::json::{items, number, text, words};
-use ariadne_parse::{Diagnostic, End, Place, Severity, Spot, Unit, place};
+use ariadne_parse::{Diagnostic, End, Location, Severity, Span, Unit, span};
 use serde_json::Value;
 use std::alloc::{AllocError, Global};
 
@@ -44,29 +44,29 @@ pub fn items_within<'v>(value: &'v Value, outer: &str, inner: &str) -> &'v [Valu
     }
 }
 
-/// A spot whose line and column are members.
-pub fn spot(value: &Value, line: &str, column: &str) -> Option<Spot>
-    ensures { result ≡ spot_at line.now column.now (view value.now) }
+/// A location whose line and column are members.
+pub fn location(value: &Value, line: &str, column: &str) -> Option<Location>
+    ensures { result ≡ location_at line.now column.now (view value.now) }
 {
-    Some(Spot {
+    Some(Location {
         line: number(value, line)?,
         column: number(value, column),
     })
 }
 
-/// A spot in a member.
-pub fn spot_in(value: &Value, name: &str, line: &str, column: &str) -> Option<Spot>
-    ensures { result ≡ parts.spot_in name.now line.now column.now (view value.now) }
+/// A location in a member.
+pub fn location_in(value: &Value, name: &str, line: &str, column: &str) -> Option<Location>
+    ensures { result ≡ parts.location_in name.now line.now column.now (view value.now) }
 {
-    spot(value.get(name)?, line, column)
+    location(value.get(name)?, line, column)
 }
 
 /// A position of LSP.
-fn position(value: &Value) -> Option<Spot>
+fn position(value: &Value) -> Option<Location>
     ensures { result ≡ parts.position_of (view value.now) }
 {
     let line = number(value, "line")?;
-    Some(Spot {
+    Some(Location {
         line: line.saturating_add(1),
         column: from_one(number(value, "character")),
     })
@@ -83,14 +83,14 @@ fn from_one(number: Option<usize>) -> Option<usize>
 }
 
 /// The start or the end of a range of LSP.
-pub fn range_spot(value: &Value, name: &str) -> Option<Spot>
-    ensures { result ≡ parts.range_spot name.now (view value.now) }
+pub fn range_location(value: &Value, name: &str) -> Option<Location>
+    ensures { result ≡ parts.range_location name.now (view value.now) }
 {
     position(value.get("range")?.get(name)?)
 }
 
-/// Where a place ends that names this end, or none.
-pub fn end_of(end: Option<Spot>) -> End
+/// Where a span ends that names this end, or none.
+pub fn end_of(end: Option<Location>) -> End
     ensures { result ≡ end_before end }
 {
     match end {
@@ -99,42 +99,42 @@ pub fn end_of(end: Option<Spot>) -> End
     }
 }
 
-/// The place of a file that a diagnostic is about, if it begins somewhere.
-pub fn own_place(
+/// The span of a file that a diagnostic is about, if it begins somewhere.
+pub fn own_span(
     alloc: Global,
     file: &str,
     unit: Unit,
-    start: Option<Spot>,
-    end: Option<Spot>,
-) -> Result<Option<Place>, AllocError>
-    ensures { IfOk result (λ it. option_map seen it ≡ parts.own_place_from file.now unit start end) }
+    start: Option<Location>,
+    end: Option<Location>,
+) -> Result<Option<Span>, AllocError>
+    ensures { IfOk result (λ it. option_map seen it ≡ parts.own_span_from file.now unit start end) }
 {
     let Some(start) = start else {
         return Ok(None);
     };
-    let mut place = place(alloc, file, start, end_of(end), unit)?;
-    place.is_primary = true;
-    Ok(Some(place))
+    let mut span = span(alloc, file, start, end_of(end), unit)?;
+    span.is_primary = true;
+    Ok(Some(span))
 }
 
-/// A diagnostic about a file: with its place, or, where that isn't known, with a note that names the file.
+/// A diagnostic about a file: with its span, or, where that isn't known, with a note that names the file.
 pub fn filed(
     alloc: Global,
     severity: Severity,
     message: &str,
     file: &str,
-    place: Option<Place>,
+    span: Option<Span>,
 ) -> Result<Diagnostic, AllocError>
-    ensures { IfOk result (λ told. read told
-        ≡ parts.filed severity message.now file.now (option_map seen place)) }
+    ensures { IfOk result (λ parsed. read parsed
+        ≡ parts.filed severity message.now file.now (option_map seen span)) }
 {
-    let mut told = Diagnostic::new(alloc, severity, message)?;
-    match place {
-        Some(place) => told.places.push(place)?,
+    let mut parsed = Diagnostic::new(alloc, severity, message)?;
+    match span {
+        Some(span) => parsed.spans.push(span)?,
         None if file.is_empty() => {}
-        None => told.notes.push(String::from_str(alloc, file)?)?,
+        None => parsed.notes.push(String::from_str(alloc, file)?)?,
     }
-    Ok(told)
+    Ok(parsed)
 }
 
 /// The items of a value that is a list; none where it is no list.

@@ -9,8 +9,8 @@ ghost use Rattle.ariadne_sarif.specs.SarifLogs as sarif;
 use crate::sarif_fixes::push_fixes;
 use crate::sarif_flows::{push_steps, steps_of};
 use crate::sarif_messages::text_of;
-use crate::sarif_places::{push_places, push_rows};
 use crate::sarif_rules::{code_of, severity_of};
+use crate::sarif_spans::{push_rows, push_spans};
 use ariadne_parse::Diagnostic;
 use ariadne_parse::json::{has_list, has_no_items, has_words, items, words};
 use ariadne_parse::pieces::{begins_with, contains};
@@ -63,16 +63,16 @@ fn are_results(values: &[Value]) -> bool
 }
 
 /// The diagnostics of a log.
-pub fn told_by_sarif(alloc: Global, value: &Value) -> Result<Vec<Diagnostic>, AllocError>
-    ensures { IfOk result (λ all. map read all.items ≡ sarif.sarif_told (view value.now)) }
+pub fn parsed_by_sarif(alloc: Global, value: &Value) -> Result<Vec<Diagnostic>, AllocError>
+    ensures { IfOk result (λ all. map read all.items ≡ sarif.sarif_parsed (view value.now)) }
 {
-    told_by_runs(alloc, items(value, "runs"))
+    parsed_by_runs(alloc, items(value, "runs"))
 }
 
 /// The diagnostics of runs.
-fn told_by_runs(alloc: Global, runs: &[Value]) -> Result<Vec<Diagnostic>, AllocError>
+fn parsed_by_runs(alloc: Global, runs: &[Value]) -> Result<Vec<Diagnostic>, AllocError>
     ensures { IfOk result (λ all.
-        map read all.items ≡ flat_items sarif.run_told (items_view runs.now)) }
+        map read all.items ≡ flat_items sarif.run_parsed (items_view runs.now)) }
 {
     let mut all = Vec::new(alloc);
     for run in runs {
@@ -89,19 +89,19 @@ fn push_results(
     results: &[Value],
 ) -> Result<(), AllocError>
     ensures { OnOk result (map read all.new.items ≡ map read all.old.items
-        ++ flat_items (sarif.result_told (view run.now)) (items_view results.now)) }
+        ++ flat_items (sarif.result_parsed (view run.now)) (items_view results.now)) }
 {
     for it in results {
-        if is_told(it) {
-            all.push(told_by_result(alloc, run, it)?)?;
+        if is_parsed(it) {
+            all.push(parsed_by_result(alloc, run, it)?)?;
         }
     }
     Ok(())
 }
 
 /// Whether a result is told: it isn't gone, didn't pass, applies, and isn't suppressed.
-fn is_told(it: &Value) -> bool
-    ensures { result ≡ sarif.is_told (view it.now) }
+fn is_parsed(it: &Value) -> bool
+    ensures { result ≡ sarif.is_parsed (view it.now) }
 {
     !is_gone(it) && !has_passed(it) && !is_suppressed(items(it, "suppressions"))
 }
@@ -147,29 +147,29 @@ fn is_accepted(value: &Value) -> bool
 }
 
 /// The diagnostic of a result.
-fn told_by_result(alloc: Global, run: &Value, it: &Value) -> Result<Diagnostic, AllocError>
-    ensures { IfOk result (λ told. read told ≡ sarif.result_read (view run.now) (view it.now)) }
+fn parsed_by_result(alloc: Global, run: &Value, it: &Value) -> Result<Diagnostic, AllocError>
+    ensures { IfOk result (λ parsed. read parsed ≡ sarif.result_read (view run.now) (view it.now)) }
 {
-    let mut told = unfixed(alloc, run, it)?;
-    push_fixes(alloc, &mut told, run, items(it, "fixes"))?;
-    Ok(told)
+    let mut parsed = unfixed(alloc, run, it)?;
+    push_fixes(alloc, &mut parsed, run, items(it, "fixes"))?;
+    Ok(parsed)
 }
 
 /// The diagnostic of a result, without its fixes.
 fn unfixed(alloc: Global, run: &Value, it: &Value) -> Result<Diagnostic, AllocError>
-    ensures { IfOk result (λ told. read told ≡ sarif.unfixed (view run.now) (view it.now)) }
+    ensures { IfOk result (λ parsed. read parsed ≡ sarif.unfixed (view run.now) (view it.now)) }
 {
     let own = items(it, "locations");
     let related = items(it, "relatedLocations");
     let text = text_of(alloc, run, it)?;
-    let mut told = Diagnostic::new(alloc, severity_of(run, it), text.as_str())?;
-    told.code = copied_code(alloc, run, it)?;
-    push_places(alloc, &mut told.places, run, own, true)?;
-    push_places(alloc, &mut told.places, run, related, false)?;
-    push_steps(alloc, &mut told.places, run, steps_of(it))?;
-    push_rows(alloc, &mut told.notes, run, own)?;
-    push_rows(alloc, &mut told.notes, run, related)?;
-    Ok(told)
+    let mut parsed = Diagnostic::new(alloc, severity_of(run, it), text.as_str())?;
+    parsed.code = copied_code(alloc, run, it)?;
+    push_spans(alloc, &mut parsed.spans, run, own, true)?;
+    push_spans(alloc, &mut parsed.spans, run, related, false)?;
+    push_steps(alloc, &mut parsed.spans, run, steps_of(it))?;
+    push_rows(alloc, &mut parsed.notes, run, own)?;
+    push_rows(alloc, &mut parsed.notes, run, related)?;
+    Ok(parsed)
 }
 
 /// A copy of a result's code, if it has one.

@@ -8,7 +8,7 @@ ghost use Rattle.ariadne_sarif.specs.SarifLogs as sarif;
 
 use crate::fixing::{changes_of, push_fix};
 use crate::sarif_messages::message_in;
-use crate::sarif_places::{Replacement, file_path, unit_of};
+use crate::sarif_spans::{Replacement, file_path, unit_of};
 use ariadne_parse::json::items;
 use ariadne_parse::{Change, Diagnostic};
 use serde_json::Value;
@@ -17,15 +17,15 @@ use std::alloc::{AllocError, Global};
 /// Adds fixes to a diagnostic.
 pub(crate) fn push_fixes(
     alloc: Global,
-    told: &mut Diagnostic,
+    parsed: &mut Diagnostic,
     run: &Value,
     fixes: &[Value],
 ) -> Result<(), AllocError>
-    ensures { OnOk result (read told.new
-        ≡ sarif.with_fixes (view run.now) (items_view fixes.now) (read told.old)) }
+    ensures { OnOk result (read parsed.new
+        ≡ sarif.with_fixes (view run.now) (items_view fixes.now) (read parsed.old)) }
 {
     for fix in fixes {
-        push_one(alloc, told, run, fix)?;
+        push_one(alloc, parsed, run, fix)?;
     }
     Ok(())
 }
@@ -33,16 +33,16 @@ pub(crate) fn push_fixes(
 /// Adds a fix: of each artifact that it changes, the changes.
 fn push_one(
     alloc: Global,
-    told: &mut Diagnostic,
+    parsed: &mut Diagnostic,
     run: &Value,
     fix: &Value,
 ) -> Result<(), AllocError>
-    ensures { OnOk result (read told.new ≡ sarif.with_one (view run.now) (view fix.now) (read told.old)) }
+    ensures { OnOk result (read parsed.new ≡ sarif.with_one (view run.now) (view fix.now) (read parsed.old)) }
 {
     let why = message_in(alloc, fix, "description")?;
     push_changes(
         alloc,
-        told,
+        parsed,
         run,
         why.as_str(),
         items(fix, "artifactChanges"),
@@ -52,16 +52,16 @@ fn push_one(
 /// Adds the changes of artifacts.
 fn push_changes(
     alloc: Global,
-    told: &mut Diagnostic,
+    parsed: &mut Diagnostic,
     run: &Value,
     why: &str,
     changes: &[Value],
 ) -> Result<(), AllocError>
-    ensures { OnOk result (read told.new
-        ≡ sarif.with_changes (view run.now) why.now (items_view changes.now) (read told.old)) }
+    ensures { OnOk result (read parsed.new
+        ≡ sarif.with_changes (view run.now) why.now (items_view changes.now) (read parsed.old)) }
 {
     for change in changes {
-        push_change(alloc, told, run, why, change)?;
+        push_change(alloc, parsed, run, why, change)?;
     }
     Ok(())
 }
@@ -69,17 +69,17 @@ fn push_changes(
 /// Adds the changes of an artifact.
 fn push_change(
     alloc: Global,
-    told: &mut Diagnostic,
+    parsed: &mut Diagnostic,
     run: &Value,
     why: &str,
     change: &Value,
 ) -> Result<(), AllocError>
-    ensures { OnOk result (read told.new
-        ≡ sarif.with_change (view run.now) why.now (view change.now) (read told.old)) }
+    ensures { OnOk result (read parsed.new
+        ≡ sarif.with_change (view run.now) why.now (view change.now) (read parsed.old)) }
 {
     let file = changed_path(alloc, run, change)?;
     let changes = changes_in(alloc, change)?;
-    push_fix(alloc, told, why, file.as_str(), unit_of(run), changes)
+    push_fix(alloc, parsed, why, file.as_str(), unit_of(run), changes)
 }
 
 /// The changes of an artifact.
@@ -95,7 +95,7 @@ fn changed_path(alloc: Global, run: &Value, change: &Value) -> Result<String, Al
         string_bytes path ≡ sarif.changed_path (view run.now) (view change.now)) }
 {
     match change.get("artifactLocation") {
-        Some(location) => file_path(alloc, run, location),
+        Some(location_value) => file_path(alloc, run, location_value),
         None => Ok(String::new(alloc)),
     }
 }

@@ -2,11 +2,11 @@
 
 ghost use Rattle.std.specs.Prelude.{◌≡◌, ◌++◌, map, option_map, string_bytes, IfOk, OnOk};
 ghost use Rattle.serde_json.specs.View.{items_view, view};
-ghost use Rattle.ariadne_parse.specs.Places.{seen};
+ghost use Rattle.ariadne_parse.specs.Spans.{seen};
 ghost use Rattle.ariadne_sarif.specs.SarifFlows as flows;
 
-use crate::sarif_places::place_at;
-use ariadne_parse::Place;
+use crate::sarif_spans::span_at;
+use ariadne_parse::Span;
 use ariadne_parse::json::items;
 use serde_json::Value;
 use std::alloc::{AllocError, Global};
@@ -35,44 +35,44 @@ fn first_at<'v>(value: &'v Value, name: &str) -> Option<&'v Value>
     value.get(name)?.get(0usize)
 }
 
-/// Adds the places of steps.
+/// Adds the spans of steps.
 pub(crate) fn push_steps(
     alloc: Global,
-    all: &mut Vec<Place>,
+    all: &mut Vec<Span>,
     run: &Value,
     steps: &[Value],
 ) -> Result<(), AllocError>
     ensures { OnOk result (map seen all.new.items
-        ≡ map seen all.old.items ++ flows.step_places (view run.now) 1 (items_view steps.now)) }
+        ≡ map seen all.old.items ++ flows.step_spans (view run.now) 1 (items_view steps.now)) }
 {
     let mut number = 1;
     for step in steps {
-        if let Some(place) = step_place(alloc, run, number, step)? {
-            all.push(place)?;
+        if let Some(span) = step_span(alloc, run, number, step)? {
+            all.push(span)?;
         }
         number += 1;
     }
     Ok(())
 }
 
-/// The place of a step that has this number, if it has one. It says the number in front of its message.
-fn step_place(
+/// The span of a step that has this number, if it has one. It says the number in front of its message.
+fn step_span(
     alloc: Global,
     run: &Value,
     number: usize,
     step: &Value,
-) -> Result<Option<Place>, AllocError>
+) -> Result<Option<Span>, AllocError>
     ensures { IfOk result (λ it. option_map seen it
-        ≡ flows.step_place (view run.now) number (view step.now)) }
+        ≡ flows.step_span (view run.now) number (view step.now)) }
 {
-    let Some(location) = step.get("location") else {
+    let Some(location_value) = step.get("location") else {
         return Ok(None);
     };
-    let Some(mut place) = place_at(alloc, run, location, false)? else {
+    let Some(mut span) = span_at(alloc, run, location_value, false)? else {
         return Ok(None);
     };
-    place.text = step_text(alloc, number, place.text.as_str())?;
-    Ok(Some(place))
+    span.text = step_text(alloc, number, span.text.as_str())?;
+    Ok(Some(span))
 }
 
 /// The number of a step, and its message behind it.

@@ -5,7 +5,7 @@ use Rattle.std.specs.declared.alloc.Global.{Global}
 use Rattle.ariadne_blocks.specs.declared.block.Block.{Block}
 use Rattle.ariadne_blocks.specs.declared.line.Line.{Line}
 use Rattle.ariadne_documents.specs.Answers.{IsLineParsed}
-use Rattle.ariadne_parse.specs.ParsedLines.{reads_text}
+use Rattle.ariadne_parse.specs.ParsedDiagnostics.{reads_text}
 use Rattle.ariadne_parse.specs.declared.diagnostic.Diagnostic.{Diagnostic}
 use Rattle.ariadne_parse.specs.declared.sent.Sent.{Sent}
 use Rattle.ariadne_parse.specs.declared.telling.Answer.{Answer}
@@ -13,13 +13,13 @@ use Rattle.ariadne_parse.specs.declared.telling.Answer.TheVariants as answer
 use Rattle.ariadne_show.specs.Finding.{is_first_held, IsOpened}
 use Rattle.ariadne_show.specs.WaitingLines.{added_row, bytes_in, IsRoleOf}
 use Rattle.ariadne_show.specs.Known.{is_waited_for, IsAboutNone, IsGivenOut, IsMoreInFront, IsNoMore}
-use Rattle.ariadne_show.specs.Known.{IsNoRowInFront, IsPlacedBy, MayNotGoOn, PlacesNone, Waits, WaitsNot}
+use Rattle.ariadne_show.specs.Known.{IsNoRowInFront, IsPlacedBy, MayNotGoOn, SpansNone, Waits, WaitsNot}
 use Rattle.ariadne_show.specs.InputLines.{IsLineOf}
 use Rattle.ariadne_show.specs.RunOutput.{dropped, head as told_head, note as told_note, of_no_form, of_text, whole, AreAllShown}
 use Rattle.ariadne_show.specs.RunOutput.{IsLineShown}
 use Rattle.ariadne_show.specs.RunOutput.{At, IsAnswered, IsBegunBehind, IsFinished, IsFollowed, IsHeadShown}
 use Rattle.ariadne_show.specs.RunOutput.{IsLinePassed, IsNoteAddedTo, IsNoteShown, IsOtherShown, IsPlacedShown, IsReadShown}
-use Rattle.ariadne_show.specs.RunOutput.{IsTextShown, all_passed, began, began_placed, goes_on, head_passed, names_place}
+use Rattle.ariadne_show.specs.RunOutput.{IsTextShown, all_passed, began, began_placed, goes_on, head_passed, names_span}
 use Rattle.ariadne_show.specs.RunOutput.{no_row, note_added, note_began, note_passed, other, passed, tally, waits_in_front}
 use Rattle.ariadne_show.specs.Writing.{HasPassed, HavePassed, Out}
 use Rattle.ariadne_show.specs.DroppedTallies.{is_tally_behind}
@@ -30,27 +30,27 @@ use Rattle.ariadne_show.specs.declared.options.Options.{Options}
 
 -- ---- heads
 
-pub head_began_if : {T E : Type 0} (r : Result T E) (options : Options) (line : Line) (told opened : Diagnostic) (known : Known)
-    (finder : Finder) (a : Out) (last : At) (held : Bool) → IsOpened told opened known.finder finder
+pub head_began_if : {T E : Type 0} (r : Result T E) (options : Options) (line : Line) (parsed opened : Diagnostic) (known : Known)
+    (finder : Finder) (a : Out) (last : At) (held : Bool) → IsOpened parsed opened known.finder finder
     → held ≡ is_first_held finder opened → held ≡ true
     → OnOk r (IsBegunBehind options line.text.now opened (record { known = record known { finder = finder }; out = a }) last)
-    → OnOk r (IsHeadShown options line told (record { known = known; out = a }) last)
-head_began_if (Ok x) options line told opened known finder a last held files is so it =
+    → OnOk r (IsHeadShown options line parsed (record { known = known; out = a }) last)
+head_began_if (Ok x) options line parsed opened known finder a last held files is so it =
     began opened finder files (sym is ∙ so) it
-head_began_if (Err e) options line told opened known finder a last held files is so it = tt
+head_began_if (Err e) options line parsed opened known finder a last held files is so it = tt
 
-pub head_passed_if : {T E : Type 0} (r : Result T E) (options : Options) (line : Line) (told opened : Diagnostic) (known : Known)
-    (finder : Finder) (a : Out) (last : At) (held : Bool) → IsOpened told opened known.finder finder
+pub head_passed_if : {T E : Type 0} (r : Result T E) (options : Options) (line : Line) (parsed opened : Diagnostic) (known : Known)
+    (finder : Finder) (a : Out) (last : At) (held : Bool) → IsOpened parsed opened known.finder finder
     → held ≡ is_first_held finder opened → held ≡ false
     → OnOk r (IsLinePassed options line.bytes.now (record { known = record known { finder = finder }; out = a }) last)
-    → OnOk r (IsHeadShown options line told (record { known = known; out = a }) last)
-head_passed_if (Ok x) options line told opened known finder a last held files is not_so it =
+    → OnOk r (IsHeadShown options line parsed (record { known = known; out = a }) last)
+head_passed_if (Ok x) options line parsed opened known finder a last held files is not_so it =
     head_passed opened finder files (sym is ∙ not_so) it
-head_passed_if (Err e) options line told opened known finder a last held files is not_so it = tt
+head_passed_if (Err e) options line parsed opened known finder a last held files is not_so it = tt
 
 -- those that waited
 pub placed_began_if : {T E : Type 0} (r : Result T E) (options : Options) (line : Line) (head : PlacedHead) (opened : Diagnostic)
-    (known : Known) (finder : Finder) (a : Out) (last : At) (held : Bool) → IsOpened head.told opened known.finder finder
+    (known : Known) (finder : Finder) (a : Out) (last : At) (held : Bool) → IsOpened head.parsed opened known.finder finder
     → held ≡ is_first_held finder opened → held ≡ true
     → OnOk r (IsBegunBehind options line.text.now opened (record { known = record known { finder = finder }; out = a }) last)
     → OnOk r (IsPlacedShown options line head (record { known = known; out = a }) last)
@@ -60,7 +60,7 @@ placed_began_if (Err e) options line head opened known finder a last held files 
 
 pub all_passed_if : {T E : Type 0} (r : Result T E) (options : Options) (line : Line) (head : PlacedHead) (opened : Diagnostic)
     (known : Known) (finder : Finder) (a : Out) (finished between last : Known) (b c d : Out) (held : Bool) (lines : List (Vec ℕ Global))
-    → IsOpened head.told opened known.finder finder
+    → IsOpened head.parsed opened known.finder finder
     → held ≡ is_first_held finder opened → held ≡ false → lines ≡ head.lines.items
     → IsFinished options (record { known = record known { finder = finder }; out = a }) (record { known = finished; out = b })
     → between ≡ finished → HavePassed options (bytes_in lines) b c
@@ -126,14 +126,14 @@ pub named_if : {T E : Type 0} (r : Result T E) (options : Options) (line : Line)
     (last : At) → IsPlacedBy line.text.now first known head
     → OnOk r (IsPlacedShown options line head (record { known = known; out = a }) last)
     → OnOk r (IsTextShown options line (record { known = first; out = a }) last)
-named_if (Ok x) options line first known a head last placed shown = names_place known head placed shown
+named_if (Ok x) options line first known a head last placed shown = names_span known head placed shown
 named_if (Err e) options line first known a head last placed shown = tt
 
--- a line places none, in the state that it was
-pub none_placed : (text : List ℕ) (first known : Known) → PlacesNone text first known → PlacesNone text first first
+-- a line spans none, in the state that it was
+pub none_placed : (text : List ℕ) (first known : Known) → SpansNone text first known → SpansNone text first first
 none_placed text first known none = record { none = none.none; same = refl }
 
-pub waited : (options : Options) (line : Line) (first placed last : Known) (a : Out) → PlacesNone line.text.now first placed
+pub waited : (options : Options) (line : Line) (first placed last : Known) (a : Out) → SpansNone line.text.now first placed
     → Waits line placed last
     → IsTextShown options line (record { known = first; out = a }) (record { known = last; out = a })
 waited options line first placed last a none waits =
@@ -141,7 +141,7 @@ waited options line first placed last a none waits =
     (subst (λ (k : Known). Waits line k last) none.same waits) refl
 
 -- a line waits not, in the state that it was
-pub not_waited : (options : Options) (line : Line) (first placed waiting : Known) → PlacesNone line.text.now first placed
+pub not_waited : (options : Options) (line : Line) (first placed waiting : Known) → SpansNone line.text.now first placed
     → WaitsNot line placed waiting → WaitsNot line first first
 not_waited options line first placed waiting none not = record {
   adds_none = subst (λ (k : Known). added_row k.front.items line.text.now ≡ None) none.same not.adds_none;
@@ -150,7 +150,7 @@ not_waited options line first placed waiting none not = record {
 }
 
 pub gone_on : (options : Options) (line : Line) (first placed waiting last : Known) (a : Out)
-    → PlacesNone line.text.now first placed → WaitsNot line placed waiting
+    → SpansNone line.text.now first placed → WaitsNot line placed waiting
     → IsMoreInFront line waiting last
     → IsTextShown options line (record { known = first; out = a }) (record { known = last; out = a })
 gone_on options line first placed waiting last a none not more =
@@ -158,7 +158,7 @@ gone_on options line first placed waiting last a none not more =
     (subst (λ (k : Known). IsMoreInFront line k last) (not.same ∙ none.same) more) refl
 
 pub other_if : {T E : Type 0} (r : Result T E) (options : Options) (line : Line) (first placed waiting known : Known) (a : Out)
-    (last : At) → PlacesNone line.text.now first placed → WaitsNot line placed waiting
+    (last : At) → SpansNone line.text.now first placed → WaitsNot line placed waiting
     → IsNoMore line waiting known → OnOk r (IsOtherShown options line (record { known = known; out = a }) last)
     → OnOk r (IsTextShown options line (record { known = first; out = a }) last)
 other_if (Ok x) options line first placed waiting known a last none not ends shown =
@@ -175,52 +175,52 @@ pub told_if : {T E : Type 0} (r : Result T E) (options : Options) (line : Line) 
     → IsLineParsed options.reading line.text.now tried.sent sent answer
     → OnOk r (IsAnswered options line (record { known = record tried { sent = sent }; out = a }) last answer)
     → OnOk r (IsReadShown options line (record { known = first; out = a }) last)
-told_if (Ok x) options line first tried sent a answer last none told shown =
-    no_row tried (record tried { sent = sent }) answer none told refl shown
-told_if (Err e) options line first tried sent a answer last none told shown = tt
+told_if (Ok x) options line first tried sent a answer last none parsed shown =
+    no_row tried (record tried { sent = sent }) answer none parsed refl shown
+told_if (Err e) options line first tried sent a answer last none parsed shown = tt
 
 -- ---- by what a line tells
 
-pub text_if : {T E : Type 0} (r : Result T E) (options : Options) (line : Line) (first last : At) (told : Answer) (reads : Bool)
-    → told ≡ answer.Nothing → reads ≡ reads_text options.reading.format → reads ≡ true
-    → OnOk r (IsTextShown options line first last) → OnOk r (IsAnswered options line first last told)
-text_if (Ok x) options line first last told reads nothing is so it =
+pub text_if : {T E : Type 0} (r : Result T E) (options : Options) (line : Line) (first last : At) (parsed : Answer) (reads : Bool)
+    → parsed ≡ answer.Nothing → reads ≡ reads_text options.reading.format → reads ≡ true
+    → OnOk r (IsTextShown options line first last) → OnOk r (IsAnswered options line first last parsed)
+text_if (Ok x) options line first last parsed reads nothing is so it =
     subst (λ (a : Answer). IsAnswered options line first last a) (sym nothing) (of_text (sym is ∙ so) it)
-text_if (Err e) options line first last told reads nothing is so it = tt
+text_if (Err e) options line first last parsed reads nothing is so it = tt
 
-pub formless_if : {T E : Type 0} (r : Result T E) (options : Options) (line : Line) (first last : At) (told : Answer) (reads : Bool)
-    → told ≡ answer.Nothing → reads ≡ reads_text options.reading.format → reads ≡ false
-    → OnOk r (IsLinePassed options line.bytes.now first last) → OnOk r (IsAnswered options line first last told)
-formless_if (Ok x) options line first last told reads nothing is not_so it =
+pub formless_if : {T E : Type 0} (r : Result T E) (options : Options) (line : Line) (first last : At) (parsed : Answer) (reads : Bool)
+    → parsed ≡ answer.Nothing → reads ≡ reads_text options.reading.format → reads ≡ false
+    → OnOk r (IsLinePassed options line.bytes.now first last) → OnOk r (IsAnswered options line first last parsed)
+formless_if (Ok x) options line first last parsed reads nothing is not_so it =
     subst (λ (a : Answer). IsAnswered options line first last a) (sym nothing) (of_no_form (sym is ∙ not_so) it)
-formless_if (Err e) options line first last told reads nothing is not_so it = tt
+formless_if (Err e) options line first last parsed reads nothing is not_so it = tt
 
-pub dropped_if : {T E : Type 0} (r : Result T E) (options : Options) (line : Line) (first last : At) (told : Answer)
-    → told ≡ answer.Dropped → OnOk r (IsFinished options first last) → OnOk r (IsAnswered options line first last told)
-dropped_if (Ok x) options line first last told is it =
+pub dropped_if : {T E : Type 0} (r : Result T E) (options : Options) (line : Line) (first last : At) (parsed : Answer)
+    → parsed ≡ answer.Dropped → OnOk r (IsFinished options first last) → OnOk r (IsAnswered options line first last parsed)
+dropped_if (Ok x) options line first last parsed is it =
     subst (λ (a : Answer). IsAnswered options line first last a) (sym is) (dropped it)
-dropped_if (Err e) options line first last told is it = tt
+dropped_if (Err e) options line first last parsed is it = tt
 
-pub whole_if : {T E : Type 0} (r : Result T E) (options : Options) (line : Line) (first last : At) (told : Answer)
-    (all : Vec Diagnostic Global) → told ≡ answer.Diagnostics all → OnOk r (AreAllShown options all.items first last)
-    → OnOk r (IsAnswered options line first last told)
-whole_if (Ok x) options line first last told all is it =
+pub whole_if : {T E : Type 0} (r : Result T E) (options : Options) (line : Line) (first last : At) (parsed : Answer)
+    (all : Vec Diagnostic Global) → parsed ≡ answer.Diagnostics all → OnOk r (AreAllShown options all.items first last)
+    → OnOk r (IsAnswered options line first last parsed)
+whole_if (Ok x) options line first last parsed all is it =
     subst (λ (a : Answer). IsAnswered options line first last a) (sym is) (whole all it)
-whole_if (Err e) options line first last told all is it = tt
+whole_if (Err e) options line first last parsed all is it = tt
 
-pub head_if : {T E : Type 0} (r : Result T E) (options : Options) (line : Line) (first last : At) (told : Answer)
-    (one : Diagnostic) → told ≡ answer.Head one → OnOk r (IsHeadShown options line one first last)
-    → OnOk r (IsAnswered options line first last told)
-head_if (Ok x) options line first last told one is it =
+pub head_if : {T E : Type 0} (r : Result T E) (options : Options) (line : Line) (first last : At) (parsed : Answer)
+    (one : Diagnostic) → parsed ≡ answer.Head one → OnOk r (IsHeadShown options line one first last)
+    → OnOk r (IsAnswered options line first last parsed)
+head_if (Ok x) options line first last parsed one is it =
     subst (λ (a : Answer). IsAnswered options line first last a) (sym is) (told_head one it)
-head_if (Err e) options line first last told one is it = tt
+head_if (Err e) options line first last parsed one is it = tt
 
-pub note_if : {T E : Type 0} (r : Result T E) (options : Options) (line : Line) (first last : At) (told : Answer)
-    (one : Diagnostic) → told ≡ answer.Note one → OnOk r (IsNoteShown options line one first last)
-    → OnOk r (IsAnswered options line first last told)
-note_if (Ok x) options line first last told one is it =
+pub note_if : {T E : Type 0} (r : Result T E) (options : Options) (line : Line) (first last : At) (parsed : Answer)
+    (one : Diagnostic) → parsed ≡ answer.Note one → OnOk r (IsNoteShown options line one first last)
+    → OnOk r (IsAnswered options line first last parsed)
+note_if (Ok x) options line first last parsed one is it =
     subst (λ (a : Answer). IsAnswered options line first last a) (sym is) (told_note one it)
-note_if (Err e) options line first last told one is it = tt
+note_if (Err e) options line first last parsed one is it = tt
 
 -- a line of these bytes
 pub line_if : {T E : Type 0} (r : Result T E) (options : Options) (bytes : List ℕ) (line : Line) (first last : At)

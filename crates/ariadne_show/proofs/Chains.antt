@@ -10,8 +10,8 @@ use Rattle.ariadne_parse.specs.declared.diagnostic.Diagnostic.{Diagnostic}
 use Rattle.ariadne_parse.specs.declared.diagnostic.Severity.TheVariants.{Note}
 use Rattle.ariadne_show.specs.declared.options.Style.{Style}
 use Rattle.ariadne_show.specs.Drawn.{config_of, severity_kind, AreSaid, IsAbout, IsBare, IsHeadDrawn, IsPicture, IsReportOf}
-use Rattle.ariadne_show.specs.Drawn.{IsSaid, IsToldDrawn, in_one, in_lines}
-use Rattle.ariadne_show.specs.FoundPlaces.{Files, Found}
+use Rattle.ariadne_show.specs.Drawn.{IsSaid, IsParsedDrawn, in_one, in_lines}
+use Rattle.ariadne_show.specs.FoundSpans.{Files, FoundFields}
 use Rattle.ariadne_show.specs.FoundLabels.{main_in}
 use Rattle.ariadne_show.specs.TextDiagnostics.{first_line, lines_of}
 use Rattle.ariadne_show.proofs.Heads.{new_bare, said_bare}
@@ -38,25 +38,25 @@ said_if (Ok x) style kind span config text sources r0 built report o p begun loo
 said_if (Err e) style kind span config text sources r0 built report o p begun looks note made same picture = tt
 
 -- of one about a diagnostic
-pub head_drawn_if : {T E : Type 0} (r : Result T E) (style : Style) (told : Diagnostic) (sources : List SafeSource)
-    (report : ReportFields (ℕ × Range ℕ)) (o p : Option (List ℕ)) → IsAbout style 0 told (first_line told) report → IsBare report
-    → OnOk r (IsPicture sources report o p) → OnOk r (IsHeadDrawn style told o p)
-head_drawn_if (Ok x) style told sources report o p about bare picture =
+pub head_drawn_if : {T E : Type 0} (r : Result T E) (style : Style) (parsed : Diagnostic) (sources : List SafeSource)
+    (report : ReportFields (ℕ × Range ℕ)) (o p : Option (List ℕ)) → IsAbout style 0 parsed (first_line parsed) report → IsBare report
+    → OnOk r (IsPicture sources report o p) → OnOk r (IsHeadDrawn style parsed o p)
+head_drawn_if (Ok x) style parsed sources report o p about bare picture =
     record { sources = sources; report = report; about = about; bare = bare; picture = picture }
-head_drawn_if (Err e) style told sources report o p about bare picture = tt
+head_drawn_if (Err e) style parsed sources report o p about bare picture = tt
 
 -- of the report of one
 pub told_if_in_one : {T E : Type 0} (r : Result T E) (style : Style) (files : Files) (sources : List SafeSource)
-    (told : Diagnostic) (main : Found) (over : List SafeSource) (report : ReportFields (ℕ × Range ℕ)) (o p : Option (List ℕ))
-    → Some main ≡ main_in files told → IsReportOf style files told main sources report → over ≡ sources → OnOk r (IsPicture over report o p)
-    → OnOk r (IsToldDrawn style files sources told o p)
-told_if_in_one (Ok x) style files sources told main over report o p found is same picture =
+    (parsed : Diagnostic) (main : FoundFields) (over : List SafeSource) (report : ReportFields (ℕ × Range ℕ)) (o p : Option (List ℕ))
+    → Some main ≡ main_in files parsed → IsReportOf style files parsed main sources report → over ≡ sources → OnOk r (IsPicture over report o p)
+    → OnOk r (IsParsedDrawn style files sources parsed o p)
+told_if_in_one (Ok x) style files sources parsed main over report o p found is same picture =
     in_one main report (sym found) is (subst (λ (l : List SafeSource). IsPicture l report o p) same picture)
-told_if_in_one (Err e) style files sources told main over report o p found is same picture = tt
+told_if_in_one (Err e) style files sources parsed main over report o p found is same picture = tt
 
 -- others behind it
 pub told_if_in_lines : {T E : Type 0} (r : Result T E) (style : Style) (files : Files) (sources : List SafeSource)
-    (told : Diagnostic) (o m q : Option (List ℕ)) → None ≡ main_in files told → IsHeadDrawn style told o m
-    → OnOk r (AreSaid style (lines_of files told) m q) → OnOk r (IsToldDrawn style files sources told o q)
-told_if_in_lines (Ok x) style files sources told o m q missing head others = in_lines m (sym missing) head others
-told_if_in_lines (Err e) style files sources told o m q missing head others = tt
+    (parsed : Diagnostic) (o m q : Option (List ℕ)) → None ≡ main_in files parsed → IsHeadDrawn style parsed o m
+    → OnOk r (AreSaid style (lines_of files parsed) m q) → OnOk r (IsParsedDrawn style files sources parsed o q)
+told_if_in_lines (Ok x) style files sources parsed o m q missing head others = in_lines m (sym missing) head others
+told_if_in_lines (Err e) style files sources parsed o m q missing head others = tt

@@ -71,32 +71,32 @@ broken_if (Err e) options text line kept step first shown last is so same bytes 
 -- ---- a document
 
 pub diagnostics_if : {T E : Type 0} (r : Result T E) (options : Options) (bytes : List ℕ) (first last : At) (sent : Sent)
-    (told : Answer) (all : Vec Diagnostic Global)
-    → IsDocumentParsed options.reading.format (value_of bytes) first.known.sent sent told → told ≡ answer.Diagnostics all
+    (parsed : Answer) (all : Vec Diagnostic Global)
+    → IsDocumentParsed options.reading.format (value_of bytes) first.known.sent sent parsed → parsed ≡ answer.Diagnostics all
     → OnOk r (AreAllShown options all.items (with_sent first sent) last)
     → OnOk r (IsDocumentShown options bytes first last)
-diagnostics_if (Ok x) options bytes first last sent told all parsed is it =
+diagnostics_if (Ok x) options bytes first last sent parsed all of_document is it =
     told_diagnostics sent all
-    (subst (λ (a : Answer). IsDocumentParsed options.reading.format (value_of bytes) first.known.sent sent a) is parsed) it
-diagnostics_if (Err e) options bytes first last sent told all parsed is it = tt
+    (subst (λ (a : Answer). IsDocumentParsed options.reading.format (value_of bytes) first.known.sent sent a) is of_document) it
+diagnostics_if (Err e) options bytes first last sent parsed all of_document is it = tt
 
 pub dropped_if : {T E : Type 0} (r : Result T E) (options : Options) (bytes : List ℕ) (first last : At) (sent : Sent)
-    (told : Answer) → IsDocumentParsed options.reading.format (value_of bytes) first.known.sent sent told
-    → told ≡ answer.Dropped → OnOk r (IsFinished options (with_sent first sent) last)
+    (parsed : Answer) → IsDocumentParsed options.reading.format (value_of bytes) first.known.sent sent parsed
+    → parsed ≡ answer.Dropped → OnOk r (IsFinished options (with_sent first sent) last)
     → OnOk r (IsDocumentShown options bytes first last)
-dropped_if (Ok x) options bytes first last sent told parsed is it =
+dropped_if (Ok x) options bytes first last sent parsed of_document is it =
     told_dropped sent
-    (subst (λ (a : Answer). IsDocumentParsed options.reading.format (value_of bytes) first.known.sent sent a) is parsed) it
-dropped_if (Err e) options bytes first last sent told parsed is it = tt
+    (subst (λ (a : Answer). IsDocumentParsed options.reading.format (value_of bytes) first.known.sent sent a) is of_document) it
+dropped_if (Err e) options bytes first last sent parsed of_document is it = tt
 
 pub none_if : {T E : Type 0} (r : Result T E) (options : Options) (bytes kept : List ℕ) (first last : At) (sent : Sent)
-    (told : Answer) → IsDocumentParsed options.reading.format (value_of bytes) first.known.sent sent told
-    → is_whole told ≡ false → kept ≡ bytes → OnOk r (AreBytesShown options kept (with_sent first sent) last)
+    (parsed : Answer) → IsDocumentParsed options.reading.format (value_of bytes) first.known.sent sent parsed
+    → is_whole parsed ≡ false → kept ≡ bytes → OnOk r (AreBytesShown options kept (with_sent first sent) last)
     → OnOk r (IsDocumentShown options bytes first last)
-none_if (Ok x) options bytes kept first last sent told parsed not_so same it =
-    told_none sent told parsed not_so
+none_if (Ok x) options bytes kept first last sent parsed of_document not_so same it =
+    told_none sent parsed of_document not_so
     (subst (λ (t : List ℕ). AreBytesShown options t (with_sent first sent) last) same it)
-none_if (Err e) options bytes kept first last sent told parsed not_so same it = tt
+none_if (Err e) options bytes kept first last sent parsed of_document not_so same it = tt
 
 -- ---- the lines of a document that doesn't end
 

@@ -2,7 +2,7 @@
 use Rattle.std.proofs.Common.{◌≡◌, ◌∙◌, [], ℕ, List, Option, Some, None, ap, subst, sym, refl}
 use Rattle.std.specs.Prelude.{Result, Ok, Err, OnOk, Vec}
 use Rattle.std.specs.declared.alloc.Global.{Global}
-use Rattle.ariadne_blocks.specs.Blocks.{lines_behind, told_of}
+use Rattle.ariadne_blocks.specs.Blocks.{lines_behind, parsed_of}
 use Rattle.ariadne_blocks.specs.declared.block.Block.{Block}
 use Rattle.ariadne_parse.specs.declared.diagnostic.Diagnostic.{Diagnostic}
 use Rattle.ariadne_show.specs.Finding.{AreChangedFound, IsOpened}
@@ -18,22 +18,22 @@ use Rattle.ariadne_show.specs.declared.known.Known.{Known}
 use Rattle.ariadne_show.specs.declared.options.Options.{Options}
 
 -- a diagnostic was written, after Ok
-pub written_if : {T E : Type 0} (r : Result T E) (options : Options) (block : Block) (told : Diagnostic) (first marked last : Known)
-    (whole : Diagnostic) (a b c : Out) (bytes : List (List ℕ)) → AreMarksSettled whole told first marked
-    → whole ≡ told_of block
-    → IsSettledShown options told (record { known = marked; out = a }) (record { known = last; out = b })
+pub written_if : {T E : Type 0} (r : Result T E) (options : Options) (block : Block) (parsed : Diagnostic) (first marked last : Known)
+    (whole : Diagnostic) (a b c : Out) (bytes : List (List ℕ)) → AreMarksSettled whole parsed first marked
+    → whole ≡ parsed_of block
+    → IsSettledShown options parsed (record { known = marked; out = a }) (record { known = last; out = b })
     → bytes ≡ lines_behind block → OnOk r (HavePassed options bytes b c)
     → OnOk r (IsBlockWritten options block (record { known = first; out = a }) (record { known = last; out = c }))
-written_if (Ok x) options block told first marked last whole a b c bytes settled is once same behind = record {
-  told = told;
+written_if (Ok x) options block parsed first marked last whole a b c bytes settled is once same behind = record {
+  parsed = parsed;
   marked = marked;
-  settled = subst (λ (d : Diagnostic). AreMarksSettled d told first marked) is settled;
+  settled = subst (λ (d : Diagnostic). AreMarksSettled d parsed first marked) is settled;
   shown = record { known = last; out = b };
   once = once;
   behind = subst (λ (lines : List (List ℕ)). HavePassed options lines b c) same behind;
   known = refl;
 }
-written_if (Err e) options block told first marked last whole a b c bytes settled is once same behind = tt
+written_if (Err e) options block parsed first marked last whole a b c bytes settled is once same behind = tt
 
 -- the one in front was, if there is one
 pub finished_some_if : {T E : Type 0} (r : Result T E) (options : Options) (known : Known) (a : Out) (taken : Option Block)
@@ -81,24 +81,24 @@ line_passed_if (Err e) options line first finished known a b before same passed 
 
 -- ---- a diagnostic that is whole
 
-pub whole_if : {T E : Type 0} (r : Result T E) (options : Options) (told opened single : Diagnostic) (known : Known)
-    (finder : Finder) (a : Out) (last : At) → IsOpened told opened known.finder finder → HasNoRepeats opened single
+pub whole_if : {T E : Type 0} (r : Result T E) (options : Options) (parsed opened single : Diagnostic) (known : Known)
+    (finder : Finder) (a : Out) (last : At) → IsOpened parsed opened known.finder finder → HasNoRepeats opened single
     → OnOk r (IsSettledShown options single (record { known = record known { finder = finder }; out = a }) last)
-    → OnOk r (IsWholeShown options told (record { known = known; out = a }) last)
-whole_if (Ok x) options told opened single known finder a last files none it =
+    → OnOk r (IsWholeShown options parsed (record { known = known; out = a }) last)
+whole_if (Ok x) options parsed opened single known finder a last files none it =
     record { opened = opened; finder = finder; files = files; single = single; repeats = none; shown = it }
-whole_if (Err e) options told opened single known finder a last files none it = tt
+whole_if (Err e) options parsed opened single known finder a last files none it = tt
 
--- ---- a diagnostic whose places are settled
+-- ---- a diagnostic whose spans are settled
 
-pub settled_shown_if : {T E : Type 0} (r : Result T E) (options : Options) (told found : Diagnostic) (known last : Known)
-    (finder : Finder) (a b : Out) → AreChangedFound told found known.finder finder → last ≡ record known { finder = finder }
+pub settled_shown_if : {T E : Type 0} (r : Result T E) (options : Options) (parsed found : Diagnostic) (known last : Known)
+    (finder : Finder) (a b : Out) → AreChangedFound parsed found known.finder finder → last ≡ record known { finder = finder }
     → OnOk r (IsShownOnce options finder.shelf found a b)
-    → OnOk r (IsSettledShown options told (record { known = known; out = a }) (record { known = last; out = b }))
-settled_shown_if (Ok x) options told found known last finder a b changed kept it =
-    subst (λ (k : Known). IsSettledShown options told (record { known = known; out = a }) (record { known = k; out = b }))
+    → OnOk r (IsSettledShown options parsed (record { known = known; out = a }) (record { known = last; out = b }))
+settled_shown_if (Ok x) options parsed found known last finder a b changed kept it =
+    subst (λ (k : Known). IsSettledShown options parsed (record { known = known; out = a }) (record { known = k; out = b }))
     (sym kept) (record { found = found; changed = changed; once = it; known = refl })
-settled_shown_if (Err e) options told found known last finder a b changed kept it = tt
+settled_shown_if (Err e) options parsed found known last finder a b changed kept it = tt
 
 -- all of several
 pub all_shown_if : {T E : Type 0} (r : Result T E) (options : Options) (all : List Diagnostic) (first finished last : At)

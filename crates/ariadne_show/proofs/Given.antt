@@ -3,11 +3,11 @@ use Rattle.std.proofs.Common.{◌≡◌, ◌∙◌, [], ℕ, List, ap, subst, sy
 use Rattle.std.specs.Prelude.{false, Result, Ok, Err, OnOk, Vec}
 use Rattle.std.specs.declared.alloc.Global.{Global}
 use Rattle.ariadne_blocks.specs.declared.block.Block.{Block}
-use Rattle.ariadne_parse.specs.declared.diagnostic.Place.{Place}
-use Rattle.ariadne_show.specs.Finding.{is_held, IsPlaceSettled}
+use Rattle.ariadne_parse.specs.declared.diagnostic.Span.{Span}
+use Rattle.ariadne_show.specs.Finding.{is_held, IsSpanSettled}
 use Rattle.ariadne_show.specs.WaitingLines.{bytes_in}
-use Rattle.ariadne_show.specs.RunOutput.{giving, tells_place, At, AreGiven, Giving, HasLineGone}
-use Rattle.ariadne_show.specs.RunOutput.{IsFrontGiven, IsPlaceGone, passed_placeless, passed_unread, told_place}
+use Rattle.ariadne_show.specs.RunOutput.{giving, tells_span, At, AreGiven, Giving, HasLineGone}
+use Rattle.ariadne_show.specs.RunOutput.{IsFrontGiven, IsSpanGone, passed_placeless, passed_unread, told_span}
 use Rattle.ariadne_show.specs.Writing.{HavePassed, Out}
 use Rattle.ariadne_show.specs.declared.finder.Finder.{Finder}
 use Rattle.ariadne_show.specs.declared.front.Role.TheVariants as role
@@ -17,35 +17,35 @@ use Rattle.ariadne_show.specs.declared.options.Options.{Options}
 
 -- ---- one line
 
--- its place is in a file that can't be read, and it passed, after Ok
-pub unread_if : {T E : Type 0} (r : Result T E) (options : Options) (lines : List (List ℕ)) (place settled : Place)
-    (finder after last : Finder) (block : Block) (a b : Out) → IsPlaceSettled place settled finder after
+-- its span is in a file that can't be read, and it passed, after Ok
+pub unread_if : {T E : Type 0} (r : Result T E) (options : Options) (lines : List (List ℕ)) (span settled : Span)
+    (finder after last : Finder) (block : Block) (a b : Out) → IsSpanSettled span settled finder after
     → is_held after settled ≡ false → last ≡ after → OnOk r (HavePassed options lines a b)
-    → OnOk r (IsPlaceGone options lines place (record { finder = finder; block = block; out = a })
+    → OnOk r (IsSpanGone options lines span (record { finder = finder; block = block; out = a })
     (record { finder = last; block = block; out = b }))
-unread_if (Ok x) options lines place settled finder after last block a b looked none kept passed =
-    subst (λ (f : Finder). IsPlaceGone options lines place (record { finder = finder; block = block; out = a })
+unread_if (Ok x) options lines span settled finder after last block a b looked none kept passed =
+    subst (λ (f : Finder). IsSpanGone options lines span (record { finder = finder; block = block; out = a })
     (record { finder = f; block = block; out = b }))
     (sym kept) (passed_unread settled looked none passed refl)
-unread_if (Err e) options lines place settled finder after last block a b looked none kept passed = tt
+unread_if (Err e) options lines span settled finder after last block a b looked none kept passed = tt
 
--- its place went
-pub told_if : {T E : Type 0} (r : Result T E) (options : Options) (line : WaitingLine) (lines : List (Vec ℕ Global)) (place : Place)
-    (first last : Giving) → line.role ≡ role.Place place → lines ≡ line.lines.items
-    → OnOk r (IsPlaceGone options (bytes_in lines) place first last) → OnOk r (HasLineGone options line first last)
-told_if (Ok x) options line lines place first last told same gone =
-    told_place place told (subst (λ (l : List (Vec ℕ Global)). IsPlaceGone options (bytes_in l) place first last) same gone)
-told_if (Err e) options line lines place first last told same gone = tt
+-- its span went
+pub told_if : {T E : Type 0} (r : Result T E) (options : Options) (line : WaitingLine) (lines : List (Vec ℕ Global)) (span : Span)
+    (first last : Giving) → line.role ≡ role.Span span → lines ≡ line.lines.items
+    → OnOk r (IsSpanGone options (bytes_in lines) span first last) → OnOk r (HasLineGone options line first last)
+told_if (Ok x) options line lines span first last parsed same gone =
+    told_span span parsed (subst (λ (l : List (Vec ℕ Global)). IsSpanGone options (bytes_in l) span first last) same gone)
+told_if (Err e) options line lines span first last parsed same gone = tt
 
--- it tells no place, and passed
+-- it tells no span, and passed
 pub placeless_if : {T E : Type 0} (r : Result T E) (options : Options) (line : WaitingLine) (lines : List (Vec ℕ Global))
-    (finder : Finder) (block : Block) (a b : Out) → tells_place line.role ≡ false → lines ≡ line.lines.items
+    (finder : Finder) (block : Block) (a b : Out) → tells_span line.role ≡ false → lines ≡ line.lines.items
     → OnOk r (HavePassed options (bytes_in lines) a b)
     → OnOk r (HasLineGone options line (record { finder = finder; block = block; out = a })
     (record { finder = finder; block = block; out = b }))
-placeless_if (Ok x) options line lines finder block a b told same passed =
-    passed_placeless told (subst (λ (l : List (Vec ℕ Global)). HavePassed options (bytes_in l) a b) same passed) refl refl
-placeless_if (Err e) options line lines finder block a b told same passed = tt
+placeless_if (Ok x) options line lines finder block a b parsed same passed =
+    passed_placeless parsed (subst (λ (l : List (Vec ℕ Global)). HavePassed options (bytes_in l) a b) same passed) refl refl
+placeless_if (Err e) options line lines finder block a b parsed same passed = tt
 
 -- ---- all of them
 

@@ -9,9 +9,9 @@ use Rattle.std.specs.declared.ops.Range.{Range}
 use Rattle.ariadne.specs.Report.{ReportFields}
 use Rattle.ariadne_safe.specs.Visible.{visible_bytes}
 use Rattle.ariadne_safe.specs.declared.text.TextKind.TheVariants.{Aside}
-use Rattle.ariadne_parse.specs.declared.diagnostic.Place.{Place}
-use Rattle.ariadne_show.specs.Asides.{aside_notes, aside_text, missing, missing_notes, spot_text, with_helps, with_notes}
-use Rattle.ariadne_show.specs.FoundPlaces.{Files, is_found}
+use Rattle.ariadne_parse.specs.declared.diagnostic.Span.{Span}
+use Rattle.ariadne_show.specs.Asides.{aside_notes, aside_text, missing, missing_notes, location_text, with_helps, with_notes}
+use Rattle.ariadne_show.specs.FoundSpans.{Files, is_found}
 use Rattle.ariadne_show.specs.Wrapped.{wrapped}
 
 -- no note more
@@ -43,24 +43,24 @@ texts_more n xs all x text same more =
     ∙ sym (map-append (λ (t : String Global). aside_text n (string_bytes t)) xs (x ∷ []))
     ∙ ap (aside_notes n) (sym more)
 
--- ---- the places that can't be drawn
+-- ---- the spans that can't be drawn
 
-note_of : ℕ → Place → List ℕ
-note_of n place = aside_text n (spot_text place (string_bytes place.text))
+note_of : ℕ → Span → List ℕ
+note_of n span = aside_text n (location_text span (string_bytes span.text))
 
-pub missing_more : (n : ℕ) (files : Files) (xs all : List Place) (x : Place) → all ≡ xs ++ x ∷ []
+pub missing_more : (n : ℕ) (files : Files) (xs all : List Span) (x : Span) → all ≡ xs ++ x ∷ []
     → missing_notes n files xs ++ missing_notes n files (x ∷ []) ≡ missing_notes n files all
 unfolding note_of
 missing_more n files xs all x more =
     sym (map-append (note_of n) (missing files xs) (missing files (x ∷ [])))
-    ∙ ap (map (note_of n)) (sym (filter-append (λ (place : Place). not (is_found files place)) xs (x ∷ [])))
+    ∙ ap (map (note_of n)) (sym (filter-append (λ (span : Span). not (is_found files span)) xs (x ∷ [])))
     ∙ ap (missing_notes n files) (sym more)
 
-pub not_missing : (n : ℕ) (files : Files) (x : Place) → is_found files x ≡ true → missing_notes n files (x ∷ []) ≡ []
+pub not_missing : (n : ℕ) (files : Files) (x : Span) → is_found files x ≡ true → missing_notes n files (x ∷ []) ≡ []
 unfolding note_of
 not_missing n files x found = ap (λ (b : Bool). map (note_of n) (cond (not b) (x ∷ []) [])) found
 
-pub one_missing : (n : ℕ) (files : Files) (x : Place) → is_found files x ≡ false
-    → missing_notes n files (x ∷ []) ≡ aside_text n (spot_text x (string_bytes x.text)) ∷ []
+pub one_missing : (n : ℕ) (files : Files) (x : Span) → is_found files x ≡ false
+    → missing_notes n files (x ∷ []) ≡ aside_text n (location_text x (string_bytes x.text)) ∷ []
 unfolding note_of
 one_missing n files x found = ap (λ (b : Bool). map (note_of n) (cond (not b) (x ∷ []) [])) found

@@ -7,7 +7,7 @@ use Rattle.std.proofs.lemmas.Grind.{flat_map-append}
 use Rattle.std.proofs.lemmas.List.{map-append}
 use Rattle.ariadne_blocks.specs.declared.message.MessageLine.{MessageLine}
 use Rattle.ariadne_parse.specs.declared.diagnostic.Diagnostic.{Diagnostic}
-use Rattle.ariadne_show.specs.FoundPlaces.{files_of}
+use Rattle.ariadne_show.specs.FoundSpans.{files_of}
 use Rattle.ariadne_show.specs.WaitingLines.{bytes_in, bytes_of, lines_of, passing_of}
 use Rattle.ariadne_show.specs.Limits.{drawn_after, is_drawn, limits_of}
 use Rattle.ariadne_show.specs.ReadFiles.{sources_in}
@@ -94,28 +94,28 @@ behind_more options all i line bytes a b c more same so_far now =
 -- ---- a diagnostic
 
 -- it was counted alone
-pub counted_only : (options : Options) (shelf : Shelf) (told : Diagnostic) (shown : Shown) (sum : Sum) (drawn : DrawnCount)
-    (o b : Option (List ℕ)) → sum ≡ counted told shown.sum → drawn ≡ drawn_after (limits_of options) told shown.drawn
-    → is_drawn (limits_of options) told shown.drawn ≡ false
-    → IsShownOnce options shelf told (out_with shown o b) (out_with (record shown { sum = sum; drawn = drawn; is_told_last = true }) o b)
-counted_only options shelf told shown sum drawn o b summed taken none =
-    subst (λ (s : Sum). IsShownOnce options shelf told (out_with shown o b) (out_with (record shown { sum = s; drawn = drawn; is_told_last = true }) o b))
+pub counted_only : (options : Options) (shelf : Shelf) (parsed : Diagnostic) (shown : Shown) (sum : Sum) (drawn : DrawnCount)
+    (o b : Option (List ℕ)) → sum ≡ counted parsed shown.sum → drawn ≡ drawn_after (limits_of options) parsed shown.drawn
+    → is_drawn (limits_of options) parsed shown.drawn ≡ false
+    → IsShownOnce options shelf parsed (out_with shown o b) (out_with (record shown { sum = sum; drawn = drawn; is_told_last = true }) o b)
+counted_only options shelf parsed shown sum drawn o b summed taken none =
+    subst (λ (s : Sum). IsShownOnce options shelf parsed (out_with shown o b) (out_with (record shown { sum = s; drawn = drawn; is_told_last = true }) o b))
     (sym summed)
-    (subst (λ (d : DrawnCount). IsShownOnce options shelf told (out_with shown o b)
-    (out_with (record shown { sum = counted told shown.sum; drawn = d; is_told_last = true }) o b))
+    (subst (λ (d : DrawnCount). IsShownOnce options shelf parsed (out_with shown o b)
+    (out_with (record shown { sum = counted parsed shown.sum; drawn = d; is_told_last = true }) o b))
     (sym taken) (counted_alone none refl))
 
 -- it was counted and written
-pub counted_written : (options : Options) (shelf : Shelf) (told : Diagnostic) (shown : Shown) (sum : Sum) (drawn : DrawnCount)
-    (written : Written) (o p b : Option (List ℕ)) → sum ≡ counted told shown.sum
-    → drawn ≡ drawn_after (limits_of options) told shown.drawn → is_drawn (limits_of options) told shown.drawn ≡ true
-    → IsWritten options (files_of shelf) (sources_in shelf) told shown.written written o p
-    → IsShownOnce options shelf told (out_with shown o b)
+pub counted_written : (options : Options) (shelf : Shelf) (parsed : Diagnostic) (shown : Shown) (sum : Sum) (drawn : DrawnCount)
+    (written : Written) (o p b : Option (List ℕ)) → sum ≡ counted parsed shown.sum
+    → drawn ≡ drawn_after (limits_of options) parsed shown.drawn → is_drawn (limits_of options) parsed shown.drawn ≡ true
+    → IsWritten options (files_of shelf) (sources_in shelf) parsed shown.written written o p
+    → IsShownOnce options shelf parsed (out_with shown o b)
     (out_with (record shown { sum = sum; drawn = drawn; written = written; is_told_last = true }) p b)
-counted_written options shelf told shown sum drawn written o p b summed taken some it =
-    subst (λ (s : Sum). IsShownOnce options shelf told (out_with shown o b)
+counted_written options shelf parsed shown sum drawn written o p b summed taken some it =
+    subst (λ (s : Sum). IsShownOnce options shelf parsed (out_with shown o b)
     (out_with (record shown { sum = s; drawn = drawn; written = written; is_told_last = true }) p b))
     (sym summed)
-    (subst (λ (d : DrawnCount). IsShownOnce options shelf told (out_with shown o b)
-    (out_with (record shown { sum = counted told shown.sum; drawn = d; written = written; is_told_last = true }) p b))
+    (subst (λ (d : DrawnCount). IsShownOnce options shelf parsed (out_with shown o b)
+    (out_with (record shown { sum = counted parsed shown.sum; drawn = d; written = written; is_told_last = true }) p b))
     (sym taken) (counted_and_written written some it refl refl))

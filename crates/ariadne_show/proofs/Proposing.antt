@@ -19,11 +19,11 @@ use Rattle.ariadne_parse.specs.declared.diagnostic.Change.{Change}
 use Rattle.ariadne_parse.specs.declared.diagnostic.Proposal.{Proposal}
 use Rattle.ariadne_safe.specs.declared.sources.SafeSource.{SafeSource}
 use Rattle.ariadne_show.specs.Asides.{begins_at, help_texts, helps_from, sketch_texts, texts_at, with_helps}
-use Rattle.ariadne_show.specs.FoundPlaces.{Files, quoted_in, read_in}
-use Rattle.ariadne_show.specs.DrawnProposals.{all_drawn, not_drawn, not_read, one_sketched_more, page_at, sketched, span_of, way_left}
+use Rattle.ariadne_show.specs.FoundSpans.{Files, quoted_in, read_in}
+use Rattle.ariadne_show.specs.DrawnProposals.{all_drawn, not_drawn, not_read, one_sketched_more, page_at, sketched, range_of, way_left}
 use Rattle.ariadne_show.specs.DrawnProposals.{AreEdits, AreSketched, AreWaysDrawn, IsEdit, IsSketched, IsWayDrawn}
 use Rattle.ariadne_show.specs.ReadFiles.{AreFilesSettled, AreKept, HaveSearched, HaveSources, IsFileSettled, IsFileSettledNow}
-use Rattle.ariadne_show.specs.declared.held.Held.{Held}
+use Rattle.ariadne_show.specs.declared.held.HeldFile.{HeldFile}
 use Rattle.ariadne_show.specs.declared.proposed.Room.{Room}
 use Rattle.ariadne_show.specs.declared.proposed.Sketch.{Sketch}
 use Rattle.ariadne_show.specs.declared.shelf.Shelf.{Shelf}
@@ -108,7 +108,7 @@ file_unread room files sources proposal path same none =
     not_read (ap (page_at files sources) (sym same) ∙ sym none)
 
 -- it was, and a proposal has its texts, or none
-pub sketched_by : (room : Room) (files : Files) (sources : List SafeSource) (proposal : Proposal) (path : List ℕ) (held : Held)
+pub sketched_by : (room : Room) (files : Files) (sources : List SafeSource) (proposal : Proposal) (path : List ℕ) (held : HeldFile)
     (source : SafeSource) (texts : Option (Vec (String Global) Global)) → path ≡ string_bytes proposal.file
     → Some (held, source) ≡ page_at files sources path → AreWaysDrawn room held source proposal texts
     → IsSketched room files sources proposal
@@ -142,7 +142,7 @@ some_item v is same not_so none =
     let zero : vec_len v ≡ 0 = omega (arith, nil, v.ok.0) in
     false≢true (sym not_so ∙ same ∙ ap (λ n. n == 0) zero)
 
-module _ (room : Room) (held : Held) (source : SafeSource) (proposal : Proposal) where
+module _ (room : Room) (held : HeldFile) (source : SafeSource) (proposal : Proposal) where
   -- a way has this text
   abbrev pub HasText : Vec Change Global → String Global → Type 0
   HasText way text = IsWayDrawn room held source proposal way.items (Some (string_bytes text))
@@ -177,13 +177,13 @@ module _ (room : Room) (held : Held) (source : SafeSource) (proposal : Proposal)
 -- ---- the changes of a way
 
 -- the file doesn't have one
-pub change_missing : (held : Held) (proposal : Proposal) (all : List Change) (i : ℕ) (change : Change)
-    → i < length all → change ≡ get_or all i change → None ≡ span_of held proposal change → AreEdits held proposal all None
+pub change_missing : (held : HeldFile) (proposal : Proposal) (all : List Change) (i : ℕ) (change : Change)
+    → i < length all → change ≡ get_or all i change → None ≡ range_of held proposal change → AreEdits held proposal all None
 change_missing held proposal all i change within is none =
     (change, subst (Contains all) (sym is) (Contains-get_or all i change within), sym none)
 
 -- one more has its edit
-pub edits_more : (held : Held) (proposal : Proposal) (all : List Change) (i : ℕ) (change : Change) (old new : List Edit)
+pub edits_more : (held : HeldFile) (proposal : Proposal) (all : List Change) (i : ℕ) (change : Change) (old new : List Edit)
     (edit : Edit) → i < length all → change ≡ get_or all i change → new ≡ old ++ edit ∷ []
     → AllZip (IsEdit held proposal) (take i all) old → IsEdit held proposal change edit
     → AllZip (IsEdit held proposal) (take (i + 1) all) new

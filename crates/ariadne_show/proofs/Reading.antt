@@ -19,15 +19,15 @@ use Rattle.ariadne_search.specs.Search.{candidates}
 use Rattle.ariadne_search.specs.declared.search.Search.{Search}
 use Rattle.ariadne_safe.specs.Visible.{visible_bytes}
 use Rattle.ariadne_safe.specs.declared.text.TextKind.TheVariants.{OneRow}
-use Rattle.ariadne_parse.specs.declared.diagnostic.Place.{Place}
+use Rattle.ariadne_parse.specs.declared.diagnostic.Span.{Span}
 use Rattle.ariadne_parse.specs.declared.diagnostic.QuotedLine.{QuotedLine}
-use Rattle.ariadne_show.specs.FoundPlaces.{Files, files_of, held_at, quoted_in, read_in, read_or_quoted}
+use Rattle.ariadne_show.specs.FoundSpans.{Files, files_of, held_at, quoted_in, read_in, read_or_quoted}
 use Rattle.ariadne.specs.Listing.{Listing}
 use Rattle.ariadne_show.specs.Quoted.{lines_held, text_held, IsQuotedFile}
 use Rattle.ariadne_show.specs.ReadFiles.{characters, is_read, shown_text, sources_in, AreKept, AreOpened, AreQuoted, AreQuotedIn, HaveSearched}
 use Rattle.ariadne_show.specs.ReadFiles.{HaveSources, HaveTried, IsFirst, IsHeldBehind, IsNotQuoted, IsQuoted, IsQuotedBehind, IsQuotedNow, IsHeldIfQuoted, IsRead, IsSettled, IsSettledNow, IsTextOf, IsTried}
 use Rattle.ariadne_show.specs.declared.held.FileText.{FileText}
-use Rattle.ariadne_show.specs.declared.held.Held.{Held}
+use Rattle.ariadne_show.specs.declared.held.HeldFile.{HeldFile}
 use Rattle.ariadne_show.specs.declared.shelf.Shelf.{Shelf}
 use Rattle.ariadne_show.proofs.Searching.{all_gone_more, all_gone_still, first_here, first_past, first_still, is_gone, kept_on, none_first}
 use Rattle.ariadne_show.proofs.Searching.{rest_still, zip_more, zip_still}
@@ -47,7 +47,7 @@ characters_of_others bytes text isnt same =
     same ∙ sym (cond-false (is_utf8 bytes) (chars bytes) bytes (not_utf8 bytes isnt))
 
 -- what is held of a file whose source is added
-pub held_behind : (old new : List SafeSource) (path bytes : List ℕ) (file : FileText) (held : Held) (begun source : SafeSource)
+pub held_behind : (old new : List SafeSource) (path bytes : List ℕ) (file : FileText) (held : HeldFile) (begun source : SafeSource)
     → IsTextOf bytes file → held.is_utf8 ≡ file.is_utf8 → held.has_mark ≡ file.has_mark → held.above ≡ 0
     → held.is_read ≡ true
     → held.columns ≡ chars (string_bytes file.text) → listing_of begun ≡ shown_text 0 (string_bytes file.text)
@@ -67,7 +67,7 @@ held_behind old new path bytes file held begun source is utf8 mark whole read co
 }
 
 -- what is held of lines that are quoted whose source is added
-pub quoted_behind : (old new : List SafeSource) (path : List ℕ) (lines : List QuotedLine) (held : Held) (last : ℕ) (text : List ℕ)
+pub quoted_behind : (old new : List SafeSource) (path : List ℕ) (lines : List QuotedLine) (held : HeldFile) (last : ℕ) (text : List ℕ)
     (begun named source : SafeSource) → held.is_utf8 ≡ true → held.has_mark ≡ false → held.is_read ≡ false → Some (held.above, last) ≡ lines_held path lines
     → text ≡ text_held path lines (held.above, last) → held.columns ≡ chars text → listing_of begun ≡ shown_text 0 text
     → given_of begun ≡ text → name_of named ≡ Some (visible_bytes OneRow path) → listing_of named ≡ listing_of begun
@@ -109,7 +109,7 @@ same_grows old new same k x is = ap (λ (l : List SafeSource). slice_get l k) sa
 one_grows : (old new : List SafeSource) (source : SafeSource) → new ≡ old ++ source ∷ [] → Grows old new
 one_grows old new source more k x is = ap (λ (l : List SafeSource). slice_get l k) more ∙ get-append old (source ∷ []) k x is
 
-tried_grows : (old new : List SafeSource) (path : List ℕ) (held : Option Held) → IsTried old new path held → Grows old new
+tried_grows : (old new : List SafeSource) (path : List ℕ) (held : Option HeldFile) → IsTried old new path held → Grows old new
 tried_grows old new path None same = same_grows old new same
 tried_grows old new path (Some held) added = one_grows old new added.1.source added.1.behind
 
@@ -120,7 +120,7 @@ numbered_last old new source n more number =
     ap (slice_get new) number ∙ ap (λ (l : List SafeSource). slice_get l (length old)) more ∙ get-behind old source
 
 -- files that were read, and lines that are quoted, have theirs still
-read_still : (old new : List SafeSource) (path : List ℕ) (held : Held) → Grows old new → IsRead old path held → IsRead new path held
+read_still : (old new : List SafeSource) (path : List ℕ) (held : HeldFile) → Grows old new → IsRead old path held → IsRead new path held
 read_still old new path held grows is = record {
   bytes = is.bytes;
   file = is.file;
@@ -129,7 +129,7 @@ read_still old new path held grows is = record {
   own = is.own;
 }
 
-quoted_still : (old new : List SafeSource) (path : List ℕ) (held : Held) → Grows old new → IsQuoted old path held
+quoted_still : (old new : List SafeSource) (path : List ℕ) (held : HeldFile) → Grows old new → IsQuoted old path held
     → IsQuoted new path held
 quoted_still old new path held grows is = record {
   lines = is.lines;
@@ -140,7 +140,7 @@ quoted_still old new path held grows is = record {
 }
 
 -- one that was read now has its own, and so have lines that are quoted now
-read_now : (old new : List SafeSource) (path : List ℕ) (held : Held) → IsTried old new path (Some held) → IsRead new path held
+read_now : (old new : List SafeSource) (path : List ℕ) (held : HeldFile) → IsTried old new path (Some held) → IsRead new path held
 read_now old new path held added = record {
   bytes = added.0;
   file = added.1.file;
@@ -149,7 +149,7 @@ read_now old new path held added = record {
   own = added.1.own;
 }
 
-quoted_now : (old new : List SafeSource) (path : List ℕ) (lines : List QuotedLine) (held : Held)
+quoted_now : (old new : List SafeSource) (path : List ℕ) (lines : List QuotedLine) (held : HeldFile)
     → IsQuotedBehind old new path lines held → IsQuoted new path held
 quoted_now old new path lines held added = record {
   lines = lines;
@@ -191,26 +191,26 @@ kept_at path held old new puts none q true same some =
 kept_at path held old new puts none q false other some = puts q ∙ cond-false (bytes_eq path q) (Some held) (old q) other
 
 -- of a file that was read
-abbrev ReadAt : List SafeSource → List ℕ → Option Held → Type 0
-ReadAt sources path tried = (held : Held) → tried ≡ Some held → IsRead sources path held
+abbrev ReadAt : List SafeSource → List ℕ → Option HeldFile → Type 0
+ReadAt sources path tried = (held : HeldFile) → tried ≡ Some held → IsRead sources path held
 
-read_if : (old new : List SafeSource) (path : List ℕ) (tried : Option Held) → IsTried old new path tried → ReadAt new path tried
+read_if : (old new : List SafeSource) (path : List ℕ) (tried : Option HeldFile) → IsTried old new path tried → ReadAt new path tried
 read_if old new path tried added held is = read_now old new path held (subst (IsTried old new path) is added)
 
-pub read_more : (path key : List ℕ) (held : Option Held) (a b : Shelf) → key ≡ path → Puts key held (read_in a) (read_in b)
+pub read_more : (path key : List ℕ) (held : Option HeldFile) (a b : Shelf) → key ≡ path → Puts key held (read_in a) (read_in b)
     → ((q : List ℕ) → quoted_in b q ≡ quoted_in a q) → false ≡ is_some (read_in a path)
     → IsTried (sources_in a) (sources_in b) path held → HaveSources a → HaveTried (path ∷ []) a b
 read_more path key held a b same puts quoted none added sources =
     let now : Puts path held (read_in a) (read_in b) = subst (λ (k : List ℕ). Puts k held (read_in a) (read_in b)) same puts in
     let grows : Grows (sources_in a) (sources_in b) = tried_grows (sources_in a) (sources_in b) path held added in record {
       kept = λ q some. kept_at path held (read_in a) (read_in b) now (none_there (read_in a path) none) q (bytes_eq path q) refl some;
-      tried = ap (λ (o : Option (Option Held)). is_some o && true) (put_here path held (read_in a) (read_in b) now);
+      tried = ap (λ (o : Option (Option HeldFile)). is_some o && true) (put_here path held (read_in a) (read_in b) now);
       quoted = quoted;
       sources = record {
         read = λ q it is. each_put (ReadAt (sources_in b)) path held (read_in a) (read_in b) now
             (read_if (sources_in a) (sources_in b) path held added)
             (λ p y was it' is'. read_still (sources_in a) (sources_in b) p it' grows
-            (sources.read p it' (was ∙ ap (λ (o : Option Held). Some o) is')))
+            (sources.read p it' (was ∙ ap (λ (o : Option HeldFile). Some o) is')))
             q (Some it) is (bytes_eq path q) refl it refl;
         quoted = λ q it is. quoted_still (sources_in a) (sources_in b) q it grows (sources.quoted q it (sym (quoted q) ∙ is));
       };
@@ -267,9 +267,9 @@ none_found xs all a b whole before = rw whole (record {
   sources = before.sources;
 })
 
--- ---- places
+-- ---- spans
 
-pub settled_now : (search : Search) (before after : Place) (found : Option (String Global)) (a b : Shelf)
+pub settled_now : (search : Search) (before after : Span) (found : Option (String Global)) (a b : Shelf)
     → HaveSearched (candidates search (string_bytes before.file)) (option_map string_bytes found) a b
     → string_bytes after.file ≡ unwrap_or (option_map string_bytes found) (string_bytes before.file)
     → after ≡ record before { file = after.file } → IsSettledNow search before after a b
@@ -281,7 +281,7 @@ settled_now search before after found a b searched file others = record {
 }
 
 -- one that was settled is so still
-pub settled_still : (search : Search) (f g : Files) → AreKept f g → (x y : Place) → IsSettled search f x y → IsSettled search g x y
+pub settled_still : (search : Search) (f g : Files) → AreKept f g → (x y : Span) → IsSettled search f x y → IsSettled search g x y
 settled_still search f g kept x y is = record {
   found = is.found;
   first = first_still f g kept (candidates search (string_bytes x.file)) is.found is.first;
@@ -289,17 +289,17 @@ settled_still search f g kept x y is = record {
   others = is.others;
 }
 
--- the places up to an index were settled, and the others are as they were
-pub record Opening (search : Search) (before after : List Place) (i : ℕ) (old new : Shelf) : Type 0 where
+-- the spans up to an index were settled, and the others are as they were
+pub record Opening (search : Search) (before after : List Span) (i : ℕ) (old new : Shelf) : Type 0 where
   pub kept : AreKept (read_in old) (read_in new)
   pub settled : AllZip (IsSettled search (read_in new)) (take i before) (take i after)
   pub rest : drop i after ≡ drop i before
   pub sources : HaveSources new
 
-pub open_begun : (search : Search) (places : List Place) (a : Shelf) → HaveSources a → Opening search places places 0 a a
-open_begun search places a sources = record { kept = λ q some. refl; settled = tt; rest = refl; sources = sources }
+pub open_begun : (search : Search) (spans : List Span) (a : Shelf) → HaveSources a → Opening search spans spans 0 a a
+open_begun search spans a sources = record { kept = λ q some. refl; settled = tt; rest = refl; sources = sources }
 
-pub opened_more : (search : Search) (before now after : List Place) (i : ℕ) (x y : Place) (a b c : Shelf) → i < length now
+pub opened_more : (search : Search) (before now after : List Span) (i : ℕ) (x y : Span) (a b c : Shelf) → i < length now
     → x ≡ get_or now i x → after ≡ set now i y → Opening search before now i a b → IsSettledNow search x y b c
     → Opening search before after (i + 1) a c
 opened_more search before now after i x y a b c within is changed opening one = record {
@@ -313,7 +313,7 @@ opened_more search before now after i x y a b c within is changed opening one = 
 }
 
 -- all were, and then the lines of those that can't be read are held
-pub all_opened : (search : Search) (lines : List QuotedLine) (before after : List Place) (i : ℕ) (a b c : Shelf)
+pub all_opened : (search : Search) (lines : List QuotedLine) (before after : List Span) (i : ℕ) (a b c : Shelf)
     → take i before ≡ before → take i after ≡ after → Opening search before after i a b → AreQuoted lines after b c
     → AreOpened search lines before after a c
 all_opened search lines before after i a b c left right opening quoted =
@@ -322,14 +322,14 @@ all_opened search lines before after i a b c left right opening quoted =
     zip_still (IsSettled search (read_in b)) (IsSettled search (read_in c)) (settled_still search (read_in b) (read_in c) kept)
     (take i before) (take i after) opening.settled in record {
       kept = kept_on (read_in a) (read_in b) (read_in c) opening.kept kept;
-      settled = subst (λ (ps : List Place). AllZip (IsSettled search (read_in c)) ps after) left
+      settled = subst (λ (ps : List Span). AllZip (IsSettled search (read_in c)) ps after) left
           (subst (AllZip (IsSettled search (read_in c)) (take i before)) right settled);
       quoted = quoted.quoted;
       held = quoted.held;
       sources = quoted.sources;
     }
 
-pub all_opened_if : {T E : Type 0} (r : Result T E) (search : Search) (lines : List QuotedLine) (before after : List Place) (i : ℕ)
+pub all_opened_if : {T E : Type 0} (r : Result T E) (search : Search) (lines : List QuotedLine) (before after : List Span) (i : ℕ)
     (a b c : Shelf) → take i before ≡ before → take i after ≡ after → Opening search before after i a b
     → OnOk r (AreQuoted lines after b c) → OnOk r (AreOpened search lines before after a c)
 all_opened_if (Ok x) search lines before after i a b c left right opening quoted =
@@ -339,7 +339,7 @@ all_opened_if (Err e) search lines before after i a b c left right opening quote
 -- ---- lines that are quoted
 
 -- what is held neither way is not quoted
-quoted_none : (read : Option (Option Held)) (quoted : Option Held) → option_and_then (λ (held : Option Held). held) (read_or_quoted read quoted) ≡ None
+quoted_none : (read : Option (Option HeldFile)) (quoted : Option HeldFile) → option_and_then (λ (held : Option HeldFile). held) (read_or_quoted read quoted) ≡ None
     → quoted ≡ None
 quoted_none None None e = refl
 quoted_none None (Some held) e = absurd (none-some held (sym e))
@@ -352,17 +352,17 @@ held_still : (path : List ℕ) (a b : Shelf) → ((q : List ℕ) → read_in b q
     → held_at (files_of b) path ≡ None → held_at (files_of a) path ≡ None
 held_still path a b same kept none =
     still (read_in a path) (quoted_in a path) (quoted_in b path) (kept path)
-    (ap (λ (r : Option (Option Held)). option_and_then (λ (held : Option Held). held) (read_or_quoted r (quoted_in b path))) (sym (same path)) ∙ none)
+    (ap (λ (r : Option (Option HeldFile)). option_and_then (λ (held : Option HeldFile). held) (read_or_quoted r (quoted_in b path))) (sym (same path)) ∙ none)
   where
-    still : (read : Option (Option Held)) (old new : Option Held) → (is_some old ≡ true → new ≡ old)
-        → option_and_then (λ (held : Option Held). held) (read_or_quoted read new) ≡ None
-        → option_and_then (λ (held : Option Held). held) (read_or_quoted read old) ≡ None
-    still read None new kept e = ap (λ (q : Option Held). option_and_then (λ (held : Option Held). held) (read_or_quoted read q)) (sym (quoted_none read new e)) ∙ e
+    still : (read : Option (Option HeldFile)) (old new : Option HeldFile) → (is_some old ≡ true → new ≡ old)
+        → option_and_then (λ (held : Option HeldFile). held) (read_or_quoted read new) ≡ None
+        → option_and_then (λ (held : Option HeldFile). held) (read_or_quoted read old) ≡ None
+    still read None new kept e = ap (λ (q : Option HeldFile). option_and_then (λ (held : Option HeldFile). held) (read_or_quoted read q)) (sym (quoted_none read new e)) ∙ e
     still read (Some held) new kept e =
-        ap (λ (q : Option Held). option_and_then (λ (held : Option Held). held) (read_or_quoted read q)) (sym (kept refl)) ∙ e
+        ap (λ (q : Option HeldFile). option_and_then (λ (held : Option HeldFile). held) (read_or_quoted read q)) (sym (kept refl)) ∙ e
 
 -- the lines of one file more
-pub quoted_more : (path key : List ℕ) (lines : List QuotedLine) (held : Held) (a b : Shelf) → key ≡ path
+pub quoted_more : (path key : List ℕ) (lines : List QuotedLine) (held : HeldFile) (a b : Shelf) → key ≡ path
     → Puts key held (quoted_in a) (quoted_in b) → ((q : List ℕ) → read_in b q ≡ read_in a q)
     → IsQuotedBehind (sources_in a) (sources_in b) path lines held → held_at (files_of a) path ≡ None
     → HaveSources a → AreQuotedIn lines a → IsQuotedNow lines path a b
@@ -403,13 +403,13 @@ same_quoted path lines a b read same kept held sources quoted =
     }
 
 -- one that is held already
-pub held_already : (path : List ℕ) (lines : List QuotedLine) (a : Shelf) (found : Option (Bor Held))
+pub held_already : (path : List ℕ) (lines : List QuotedLine) (a : Shelf) (found : Option (Bor HeldFile))
     → option_copied found ≡ held_at (files_of a) path → true ≡ is_some found → held_at (files_of a) path ≡ None → IsNotQuoted path lines
 held_already path lines a None is some none = absurd (false≢true (sym some))
 held_already path lines a (Some held) is some none = absurd (none-some held.now (sym (is ∙ none)))
 
 -- one that is not
-pub not_held : (path : List ℕ) (a : Shelf) (found : Option (Bor Held)) → option_copied found ≡ held_at (files_of a) path
+pub not_held : (path : List ℕ) (a : Shelf) (found : Option (Bor HeldFile)) → option_copied found ≡ held_at (files_of a) path
     → false ≡ is_some found → held_at (files_of a) path ≡ None
 not_held path a None is none = sym is
 not_held path a (Some held) is none = absurd (false≢true none)
@@ -428,21 +428,21 @@ none_quoted lines a b read none kept sources =
       };
     }
 
--- those of the files of some places, and of the file of one more
-pub quoted_on : (lines : List QuotedLine) (places : List Place) (i : ℕ) (x : Place) (path : List ℕ) (a b c : Shelf) → i < length places
-    → x ≡ get_or places i x → path ≡ string_bytes x.file → AreQuoted lines (take i places) a b → IsQuotedNow lines path b c
-    → AreQuoted lines (take (i + 1) places) a c
-quoted_on lines places i x path a b c within is file before now =
-    let IsHeld : Place → Type 0 = λ place. IsHeldIfQuoted lines c (string_bytes place.file) in record {
+-- those of the files of some spans, and of the file of one more
+pub quoted_on : (lines : List QuotedLine) (spans : List Span) (i : ℕ) (x : Span) (path : List ℕ) (a b c : Shelf) → i < length spans
+    → x ≡ get_or spans i x → path ≡ string_bytes x.file → AreQuoted lines (take i spans) a b → IsQuotedNow lines path b c
+    → AreQuoted lines (take (i + 1) spans) a c
+quoted_on lines spans i x path a b c within is file before now =
+    let IsHeld : Span → Type 0 = λ span. IsHeldIfQuoted lines c (string_bytes span.file) in record {
       same = λ q. now.same q ∙ before.same q;
       quoted = now.quoted;
-      held = All-more IsHeld places i x within
-          (All-weaker (λ place. IsHeldIfQuoted lines b (string_bytes place.file)) IsHeld
-          (λ place was none. was (held_still (string_bytes place.file) b c now.same now.kept none)) (take i places) before.held)
+      held = All-more IsHeld spans i x within
+          (All-weaker (λ span. IsHeldIfQuoted lines b (string_bytes span.file)) IsHeld
+          (λ span was none. was (held_still (string_bytes span.file) b c now.same now.kept none)) (take i spans) before.held)
           (subst IsHeld is (subst (λ (p : List ℕ). IsHeldIfQuoted lines c p) file now.held));
       sources = now.sources;
     }
 
-pub all_quoted : (lines : List QuotedLine) (places : List Place) (i : ℕ) (a b : Shelf) → take i places ≡ places
-    → AreQuoted lines (take i places) a b → AreQuoted lines places a b
-all_quoted lines places i a b whole quoted = subst (λ (ps : List Place). AreQuoted lines ps a b) whole quoted
+pub all_quoted : (lines : List QuotedLine) (spans : List Span) (i : ℕ) (a b : Shelf) → take i spans ≡ spans
+    → AreQuoted lines (take i spans) a b → AreQuoted lines spans a b
+all_quoted lines spans i a b whole quoted = subst (λ (ps : List Span). AreQuoted lines ps a b) whole quoted

@@ -4,11 +4,11 @@ use Rattle.std.proofs.lemmas.List.{map-append}
 use Rattle.std.proofs.lemmas.List.Elements.{filter-append}
 use Rattle.std.specs.Prelude.{Bool, true, false, not, cond, ◌==◌, List, ◌∷◌, ◌++◌, Option, filter, length, map, take, String, string_bytes}
 use Rattle.std.specs.declared.alloc.Global.{Global}
-use Rattle.ariadne_parse.specs.declared.diagnostic.Place.{Place}
+use Rattle.ariadne_parse.specs.declared.diagnostic.Span.{Span}
 use Rattle.ariadne_show.specs.declared.options.Style.{Style}
-use Rattle.ariadne_show.specs.Asides.{spot_text}
+use Rattle.ariadne_show.specs.Asides.{location_text}
 use Rattle.ariadne_show.specs.Drawn.{AreSaid, IsSaid, one_said_more}
-use Rattle.ariadne_show.specs.TextDiagnostics.{said_places, said_texts, says_something}
+use Rattle.ariadne_show.specs.TextDiagnostics.{said_spans, said_texts, says_something}
 
 -- one text more
 pub texts_more : (xs all : List (String Global)) (x : String Global) (text : List ℕ) → all ≡ xs ++ x ∷ []
@@ -26,34 +26,34 @@ said_more style xs all x text o p q more same before now =
 pub and_more : (r0 r s xs ys zs : List (List ℕ)) → r ≡ r0 ++ xs → s ≡ r ++ ys → xs ++ ys ≡ zs → s ≡ r0 ++ zs
 and_more r0 r s xs ys zs is more all = more ∙ ap (λ l. l ++ ys) is ∙ append_assoc r0 xs ys ∙ ap (λ l. r0 ++ l) all
 
--- ---- places
+-- ---- spans
 
-said_of : Place → List ℕ
-said_of place = spot_text place (string_bytes place.text)
+said_of : Span → List ℕ
+said_of span = location_text span (string_bytes span.text)
 
-pub places_more : (xs all : List Place) (x : Place) → all ≡ xs ++ x ∷ []
-    → said_places xs ++ said_places (x ∷ []) ≡ said_places all
+pub spans_more : (xs all : List Span) (x : Span) → all ≡ xs ++ x ∷ []
+    → said_spans xs ++ said_spans (x ∷ []) ≡ said_spans all
 unfolding said_of
-places_more xs all x more =
+spans_more xs all x more =
     sym (map-append said_of (filter says_something xs) (filter says_something (x ∷ [])))
     ∙ ap (map said_of) (sym (filter-append says_something xs (x ∷ [])))
-    ∙ ap said_places (sym more)
+    ∙ ap said_spans (sym more)
 
-pub no_place : (x : Place) → (length (string_bytes x.text) == 0) ≡ true → said_places (x ∷ []) ≡ []
+pub no_span : (x : Span) → (length (string_bytes x.text) == 0) ≡ true → said_spans (x ∷ []) ≡ []
 unfolding said_of
-no_place x empty = ap (λ (b : Bool). map said_of (cond (not b) (x ∷ []) [])) empty
+no_span x empty = ap (λ (b : Bool). map said_of (cond (not b) (x ∷ []) [])) empty
 
-pub one_place : (x : Place) → (length (string_bytes x.text) == 0) ≡ false
-    → said_places (x ∷ []) ≡ spot_text x (string_bytes x.text) ∷ []
+pub one_span : (x : Span) → (length (string_bytes x.text) == 0) ≡ false
+    → said_spans (x ∷ []) ≡ location_text x (string_bytes x.text) ∷ []
 unfolding said_of
-one_place x filled = ap (λ (b : Bool). map said_of (cond (not b) (x ∷ []) [])) filled
+one_span x filled = ap (λ (b : Bool). map said_of (cond (not b) (x ∷ []) [])) filled
 
 -- ---- all of them
 
-pub all_lines : (a b c d e places notes helps why : List (List ℕ)) → a ≡ [] → b ≡ a ++ places → c ≡ b ++ notes → d ≡ c ++ helps
-    → e ≡ d ++ why → e ≡ places ++ notes ++ helps ++ why
-all_lines a b c d e places notes helps why none one two three four =
-    four ∙ ap (λ l. l ++ why) (three ∙ ap (λ l. l ++ helps) (two ∙ ap (λ l. l ++ notes) (one ∙ ap (λ l. l ++ places) none)))
+pub all_lines : (a b c d e spans notes helps why : List (List ℕ)) → a ≡ [] → b ≡ a ++ spans → c ≡ b ++ notes → d ≡ c ++ helps
+    → e ≡ d ++ why → e ≡ spans ++ notes ++ helps ++ why
+all_lines a b c d e spans notes helps why none one two three four =
+    four ∙ ap (λ l. l ++ why) (three ∙ ap (λ l. l ++ helps) (two ∙ ap (λ l. l ++ notes) (one ∙ ap (λ l. l ++ spans) none)))
 
 pub all_said : (style : Style) (xs : List (String Global)) (i : ℕ) (lines : List (List ℕ)) (o q : Option (List ℕ)) → take i xs ≡ xs
     → said_texts xs ≡ lines → AreSaid style (said_texts (take i xs)) o q → AreSaid style lines o q

@@ -8,7 +8,7 @@ use Rattle.std.proofs.lemmas.List.Elements.{AllZip-push}
 use Rattle.std.proofs.lemmas.List.Sums.{take_while-cons}
 use Rattle.std.specs.List.{AllZip, list_all}
 use Rattle.std.specs.Prelude.{ℕ, suc, zero, drop, map, take, Bool, true, false, cond, not, ◌&&◌, List, [], ◌∷◌, ◌++◌, Option, Some, None, is_some}
-use Rattle.ariadne_show.specs.FoundPlaces.{Files, held_at}
+use Rattle.ariadne_show.specs.FoundSpans.{Files, held_at}
 use Rattle.ariadne_show.specs.ReadFiles.{are_tried, first_read, in_front, is_read, AreKept, IsFirst}
 
 -- the file at a path was tried, and can't be read

@@ -8,7 +8,7 @@ use Rattle.ariadne_blocks.specs.declared.block.Block.{Block}
 use Rattle.ariadne_blocks.specs.declared.line.Line.{Line}
 use Rattle.ariadne_show.specs.Known.{goes_not_on, has_open_block, has_waiting_lines, not_of_it, IsMoreTaken}
 use Rattle.ariadne_show.specs.Known.{IsPlacedAt, IsPlacedNow, IsRowTaken, IsTriedAsRow}
-use Rattle.ariadne_parse.specs.declared.diagnostic.Spot.{Spot}
+use Rattle.ariadne_parse.specs.declared.diagnostic.Location.{Location}
 use Rattle.ariadne_show.specs.declared.finder.Finder.{Finder}
 use Rattle.ariadne_show.specs.declared.front.PlacedHead.{PlacedHead}
 use Rattle.ariadne_show.specs.declared.front.WaitingLine.{WaitingLine}
@@ -83,13 +83,13 @@ more_in_front_if (Err e) line known before after held alone may more same = tt
 
 -- ---- heads that waited
 
-pub placed_at_if : {E : Type 0} (r : Result (Option PlacedHead) E) (arrow : List ℕ × Spot × Bool) (known : Known)
+pub placed_at_if : {E : Type 0} (r : Result (Option PlacedHead) E) (arrow : List ℕ × Location × Bool) (known : Known)
     (front : Vec WaitingLine Global) (waiting : WaitingLine) → known.front.items ≡ front.items ++ waiting ∷ []
     → IfOk r (IsPlacedNow arrow waiting) → IfOk r (IsPlacedAt arrow known (record known { front = front }))
 placed_at_if (Ok None) arrow known front waiting waited placed = placed
 placed_at_if (Ok (Some head)) arrow known front waiting waited placed = record {
   waiting = waiting;
-  has_place = placed;
+  has_span = placed;
   waited = waited;
   known = refl;
 }

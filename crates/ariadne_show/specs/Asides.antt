@@ -1,5 +1,5 @@
 -- What a report says beside: the notes and helps of a diagnostic, what is drawn in the place of helps, and
--- a note for each of its places that can't be drawn.
+-- a note for each of its spans that can't be drawn.
 use Rattle.std.specs.Prelude.{ℕ, ◌+◌, ◌==◌, ◌&&◌, nat_le, nat_lt, Bool, not, if◌then◌else◌}
 use Rattle.std.specs.Prelude.{List, [], ◌∷◌, ◌++◌, map, filter}
 use Rattle.std.specs.List.{flat_map, list_any}
@@ -10,8 +10,8 @@ use Rattle.ariadne.specs.Report.{ReportFields}
 use Rattle.ariadne_safe.specs.Visible.{visible_bytes}
 use Rattle.ariadne_safe.specs.declared.text.TextKind.TheVariants.{Aside}
 use Rattle.ariadne_parse.specs.declared.diagnostic.Diagnostic.{Diagnostic}
-use Rattle.ariadne_parse.specs.declared.diagnostic.Place.{Place}
-use Rattle.ariadne_show.specs.FoundPlaces.{Files, is_found}
+use Rattle.ariadne_parse.specs.declared.diagnostic.Span.{Span}
+use Rattle.ariadne_show.specs.FoundSpans.{Files, is_found}
 use Rattle.ariadne_show.specs.Wrapped.{wrapped}
 use Rattle.ariadne_show.specs.declared.proposed.Sketch.{Sketch}
 
@@ -20,34 +20,34 @@ abbrev pub column_text : Option ℕ → List ℕ
 column_text None = []
 column_text (Some column) = codes ":" ++ decimal column
 
--- where a place begins, FILE:LINE:COLUMN, and then what is said of it
-abbrev pub spot_name : Place → List ℕ
-spot_name place =
-    string_bytes place.file ++ codes ":" ++ decimal place.start.line ++ column_text place.start.column
+-- where a span begins, FILE:LINE:COLUMN, and then what is said of it
+abbrev pub location_name : Span → List ℕ
+location_name span =
+    string_bytes span.file ++ codes ":" ++ decimal span.start.line ++ column_text span.start.column
     ++ codes ": "
 
-abbrev pub spot_text : Place → List ℕ → List ℕ
-spot_text place said = spot_name place ++ said
+abbrev pub location_text : Span → List ℕ → List ℕ
+location_text span said = location_name span ++ said
 
--- the places that can't be drawn
-abbrev pub missing : Files → List Place → List Place
-missing files places = filter (λ place. not (is_found files place)) places
+-- the spans that can't be drawn
+abbrev pub missing : Files → List Span → List Span
+missing files spans = filter (λ span. not (is_found files span)) spans
 
 -- a help or a note as it can be shown, in rows of so many columns, or of any number where that is 0
 abbrev pub aside_text : ℕ → List ℕ → List ℕ
 aside_text columns text = visible_bytes Aside (wrapped columns text)
 
--- the notes: of these places, and of the diagnostic
-abbrev pub missing_notes : ℕ → Files → List Place → List (List ℕ)
-missing_notes columns files places =
-    map (λ place. aside_text columns (spot_text place (string_bytes place.text))) (missing files places)
+-- the notes: of these spans, and of the diagnostic
+abbrev pub missing_notes : ℕ → Files → List Span → List (List ℕ)
+missing_notes columns files spans =
+    map (λ span. aside_text columns (location_text span (string_bytes span.text))) (missing files spans)
 
 abbrev pub aside_notes : ℕ → List (String Global) → List (List ℕ)
 aside_notes columns texts = map (λ text. aside_text columns (string_bytes text)) texts
 
 abbrev pub notes_of : ℕ → Files → Diagnostic → List (List ℕ)
-notes_of columns files told =
-    missing_notes columns files told.places.items ++ aside_notes columns told.notes.items
+notes_of columns files parsed =
+    missing_notes columns files parsed.spans.items ++ aside_notes columns parsed.notes.items
 
 -- a proposal that is drawn begins at the help with this number, and stands in its place
 abbrev pub begins_at : ℕ → Sketch → Bool
@@ -81,7 +81,7 @@ helps_from columns sketches number (help ∷ helps) =
     help_texts columns sketches number help ++ helps_from columns sketches (number + 1) helps
 
 abbrev pub helps_of : ℕ → List Sketch → Diagnostic → List (List ℕ)
-helps_of columns sketches told = helps_from columns sketches 0 told.helps.items
+helps_of columns sketches parsed = helps_from columns sketches 0 parsed.helps.items
 
 -- a report with more notes, and with more helps
 abbrev pub with_notes : List (List ℕ) → ReportFields (ℕ × Range ℕ) → ReportFields (ℕ × Range ℕ)

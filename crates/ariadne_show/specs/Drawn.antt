@@ -26,7 +26,7 @@ use Rattle.ariadne_show.specs.declared.options.Style.{Style}
 use Rattle.ariadne_show.specs.declared.proposed.Room.{Room}
 use Rattle.ariadne_show.specs.declared.proposed.Sketch.{Sketch}
 use Rattle.ariadne_show.specs.Asides.{helps_of, notes_of}
-use Rattle.ariadne_show.specs.FoundPlaces.{Files, Found}
+use Rattle.ariadne_show.specs.FoundSpans.{Files, FoundFields}
 use Rattle.ariadne_show.specs.FoundLabels.{severity_color, AreOrdered, labels_of, main_in, shown_header}
 use Rattle.ariadne_show.specs.DrawnProposals.{AreSketched}
 use Rattle.ariadne_show.specs.TextDiagnostics.{first_line, lines_of}
@@ -54,7 +54,7 @@ kind_for (Some own) severity =
     (unwrap_or own.color (severity_color severity))
 
 abbrev pub kind_of : Diagnostic → Kind
-kind_of told = kind_for told.own_kind told.severity
+kind_of parsed = kind_for parsed.own_kind parsed.severity
 
 -- the characters that strokes and marks are drawn with
 abbrev pub char_set_of : Style → CharSet
@@ -73,12 +73,12 @@ config_of style = record default_config {
 
 -- a report has the configuration that is asked for, with lines of so many columns, the kind and the code
 -- of a diagnostic, and a text as its message, as they can be shown
-pub record IsAbout (style : Style) (width : ℕ) (told : Diagnostic) (text : List ℕ)
+pub record IsAbout (style : Style) (width : ℕ) (parsed : Diagnostic) (text : List ℕ)
     (report : ReportFields (ℕ × Range ℕ)) : Type 0 where
   pub config : report.config ≡ record (config_of style) { width = width }
-  pub kind : report.kind ≡ kind_of told
+  pub kind : report.kind ≡ kind_of parsed
   pub code : report.code
-      ≡ option_map (λ code. filled_code (visible_bytes OneRow (string_bytes code))) told.code
+      ≡ option_map (λ code. filled_code (visible_bytes OneRow (string_bytes code))) parsed.code
   pub message : report.message ≡ Some (visible_bytes OneRow text)
 
 -- a report with the code of a diagnostic, if it has one
@@ -97,23 +97,23 @@ pub record IsBare (report : ReportFields (ℕ × Range ℕ)) : Type 0 where
 abbrev pub room_in : Style → ℕ → Room
 room_in style width = record { columns = width; char_set = char_set_of style }
 
--- a report has the head, the labels, the notes and the helps of a diagnostic whose own place was found.
+-- a report has the head, the labels, the notes and the helps of a diagnostic whose own span was found.
 -- Its lines, notes and helps take the columns that its margin leaves of a row, and what it proposes is
 -- drawn in the place of some helps
-pub record IsReportOf (style : Style) (files : Files) (told : Diagnostic) (main : Found)
+pub record IsReportOf (style : Style) (files : Files) (parsed : Diagnostic) (main : FoundFields)
     (sources : List SafeSource) (report : ReportFields (ℕ × Range ℕ)) : Type 0 where
   pub width : ℕ
   pub is_width : IsTextWidth style.width sources (without_rows report) width
-  pub about : IsAbout style width told (string_bytes told.message) report
+  pub about : IsAbout style width parsed (string_bytes parsed.message) report
   pub span : report.span ≡ shown_header report.config.index_type sources main
-  pub ordered : List Found
-  pub places : AreOrdered files main.number told.places.items ordered
+  pub ordered : List FoundFields
+  pub spans : AreOrdered files main.number parsed.spans.items ordered
   pub labels : report.labels
-      ≡ labels_of report.config.index_type sources told.severity style.is_compact ordered
-  pub notes : report.notes ≡ notes_of width files told
+      ≡ labels_of report.config.index_type sources parsed.severity style.is_compact ordered
+  pub notes : report.notes ≡ notes_of width files parsed
   pub sketches : List Sketch
-  pub proposals : AreSketched (room_in style width) files sources told.proposals.items sketches
-  pub helps : report.helps ≡ helps_of width sketches told
+  pub proposals : AreSketched (room_in style width) files sources parsed.proposals.items sketches
+  pub helps : report.helps ≡ helps_of width sketches parsed
 
 -- ---- pictures
 
@@ -142,21 +142,21 @@ pub data AreSaid (style : Style) : List (List ℕ) → Option (List ℕ) → Opt
       → (text : List ℕ) → IsSaid style text p q → AreSaid style (texts ++ text ∷ []) o q
 
 -- that of its first line has, which has nothing but a head
-pub record IsHeadDrawn (style : Style) (told : Diagnostic) (before after : Option (List ℕ))
+pub record IsHeadDrawn (style : Style) (parsed : Diagnostic) (before after : Option (List ℕ))
     : Type 0 where
   pub sources : List SafeSource
   pub report : ReportFields (ℕ × Range ℕ)
-  pub about : IsAbout style 0 told (first_line told) report
+  pub about : IsAbout style 0 parsed (first_line parsed) report
   pub bare : IsBare report
   pub picture : IsPicture sources report before after
 
--- where its own place was found, the picture of the report of a diagnostic has; else that of its first
+-- where its own span was found, the picture of the report of a diagnostic has; else that of its first
 -- line, and then those of the others, of which the last says why
-pub data IsToldDrawn (style : Style) (files : Files) (sources : List SafeSource)
-    (told : Diagnostic) (before after : Option (List ℕ)) : Type 0 where
-  in_one : (main : Found) (report : ReportFields (ℕ × Range ℕ))
-      → main_in files told ≡ Some main → IsReportOf style files told main sources report
-      → IsPicture sources report before after → IsToldDrawn style files sources told before after
-  in_lines : (headed : Option (List ℕ)) → main_in files told ≡ None
-      → IsHeadDrawn style told before headed → AreSaid style (lines_of files told) headed after
-      → IsToldDrawn style files sources told before after
+pub data IsParsedDrawn (style : Style) (files : Files) (sources : List SafeSource)
+    (parsed : Diagnostic) (before after : Option (List ℕ)) : Type 0 where
+  in_one : (main : FoundFields) (report : ReportFields (ℕ × Range ℕ))
+      → main_in files parsed ≡ Some main → IsReportOf style files parsed main sources report
+      → IsPicture sources report before after → IsParsedDrawn style files sources parsed before after
+  in_lines : (headed : Option (List ℕ)) → main_in files parsed ≡ None
+      → IsHeadDrawn style parsed before headed → AreSaid style (lines_of files parsed) headed after
+      → IsParsedDrawn style files sources parsed before after

@@ -18,10 +18,10 @@ use Rattle.ariadne_safe.specs.Sources.{listing_of}
 use Rattle.ariadne_safe.specs.declared.sources.SafeSource.{SafeSource}
 use Rattle.ariadne_parse.specs.declared.diagnostic.Change.{Change}
 use Rattle.ariadne_parse.specs.declared.diagnostic.Proposal.{Proposal}
-use Rattle.ariadne_parse.specs.declared.diagnostic.Spot.{Spot}
-use Rattle.ariadne_show.specs.FoundPlaces.{spot_by, Files, held_at}
+use Rattle.ariadne_parse.specs.declared.diagnostic.Location.{Location}
+use Rattle.ariadne_show.specs.FoundSpans.{location_by, Files, held_at}
 use Rattle.ariadne_show.specs.Wrapped.{aside_columns, fits, wrapped}
-use Rattle.ariadne_show.specs.declared.held.Held.{Held}
+use Rattle.ariadne_show.specs.declared.held.HeldFile.{HeldFile}
 use Rattle.ariadne_show.specs.declared.proposed.Sketch.{Sketch}
 use Rattle.ariadne_show.specs.declared.proposed.Room.{Room}
 use Rattle.ariadne_show.specs.declared.proposed.TheConstants.{TAB_WIDTH}
@@ -29,36 +29,36 @@ use Rattle.ariadne_show.specs.declared.proposed.TheConstants.{TAB_WIDTH}
 -- ---- the file
 
 -- a file that was read, and its source
-abbrev pub page_of : List SafeSource → Held → Option (Held × SafeSource)
+abbrev pub page_of : List SafeSource → HeldFile → Option (HeldFile × SafeSource)
 page_of sources held =
     if held.is_read then option_map (λ source. (held, source)) (slice_get sources held.number) else None
 
-abbrev pub page_at : Files → List SafeSource → List ℕ → Option (Held × SafeSource)
+abbrev pub page_at : Files → List SafeSource → List ℕ → Option (HeldFile × SafeSource)
 page_at files sources path = option_and_then (page_of sources) (held_at files path)
 
 -- ---- the changes of a way
 
--- the offset of a spot, in characters of a file
-abbrev pub change_spot : Held → Proposal → Spot → Option ℕ
-change_spot held proposal spot = spot_by held proposal.unit proposal.is_past_mark spot 1
+-- the offset of a location, in characters of a file
+abbrev pub change_location : HeldFile → Proposal → Location → Option ℕ
+change_location held proposal location = location_by held proposal.unit proposal.is_past_mark location 1
 
 -- the characters that a change replaces, if the file has both of its ends
-unfoldable pub span_of : Held → Proposal → Change → Option (Range ℕ)
-span_of held proposal change =
+unfoldable pub range_of : HeldFile → Proposal → Change → Option (Range ℕ)
+range_of held proposal change =
     option_and_then
-    (λ start. option_map (λ end. record { start = start; end = end }) (change_spot held proposal change.end))
-    (change_spot held proposal change.start)
+    (λ start. option_map (λ end. record { start = start; end = end }) (change_location held proposal change.end))
+    (change_location held proposal change.start)
 
 -- an edit is a change
-pub record IsEdit (held : Held) (proposal : Proposal) (change : Change) (edit : Edit) : Type 0 where
-  pub span : span_of held proposal change ≡ Some edit.span
+pub record IsEdit (held : HeldFile) (proposal : Proposal) (change : Change) (edit : Edit) : Type 0 where
+  pub span : range_of held proposal change ≡ Some edit.span
   pub text : string_bytes edit.text ≡ string_bytes change.put_in
 
 -- edits are changes; or there are none, as the file doesn't have some change
-abbrev pub AreEdits : Held → Proposal → List Change → Option (List Edit) → Type 0
+abbrev pub AreEdits : HeldFile → Proposal → List Change → Option (List Edit) → Type 0
 AreEdits held proposal changes (Some edits) = AllZip (IsEdit held proposal) changes edits
 AreEdits held proposal changes None =
-    (change : Change) × Contains changes change × (span_of held proposal change ≡ None)
+    (change : Change) × Contains changes change × (range_of held proposal change ≡ None)
 
 -- how many columns the number of its last line takes
 abbrev pub number_columns : SafeSource → ℕ
@@ -97,7 +97,7 @@ way_text columns why rows = if length why == 0 then rows else wrapped columns wh
 
 -- the text of a way; none where the file doesn't have its changes, they are refused, or their rows can't be
 -- shown
-pub data IsWayDrawn (room : Room) (held : Held) (source : SafeSource) (proposal : Proposal) (changes : List Change)
+pub data IsWayDrawn (room : Room) (held : HeldFile) (source : SafeSource) (proposal : Proposal) (changes : List Change)
     : Option (List ℕ) → Type 0 where
   not_there : AreEdits held proposal changes None
       → IsWayDrawn room held source proposal changes None
@@ -114,7 +114,7 @@ pub data IsWayDrawn (room : Room) (held : Held) (source : SafeSource) (proposal 
 -- ---- proposals
 
 -- the texts of all ways; none where there is no way, or some way has no text
-pub data AreWaysDrawn (room : Room) (held : Held) (source : SafeSource) (proposal : Proposal)
+pub data AreWaysDrawn (room : Room) (held : HeldFile) (source : SafeSource) (proposal : Proposal)
     : Option (Vec (String Global) Global) → Type 0 where
   no_way : proposal.ways.items ≡ [] → AreWaysDrawn room held source proposal None
   way_left : (way : Vec Change Global) → Contains proposal.ways.items way
@@ -129,10 +129,10 @@ pub data IsSketched (room : Room) (files : Files) (sources : List SafeSource) (p
     : Option Sketch → Type 0 where
   not_read : page_at files sources (string_bytes proposal.file) ≡ None
       → IsSketched room files sources proposal None
-  not_drawn : (held : Held) (source : SafeSource)
+  not_drawn : (held : HeldFile) (source : SafeSource)
       → page_at files sources (string_bytes proposal.file) ≡ Some (held, source)
       → AreWaysDrawn room held source proposal None → IsSketched room files sources proposal None
-  sketched : (held : Held) (source : SafeSource) (sketch : Sketch)
+  sketched : (held : HeldFile) (source : SafeSource) (sketch : Sketch)
       → page_at files sources (string_bytes proposal.file) ≡ Some (held, source)
       → sketch.helps ≡ proposal.helps → AreWaysDrawn room held source proposal (Some sketch.texts)
       → IsSketched room files sources proposal (Some sketch)

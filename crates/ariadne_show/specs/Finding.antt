@@ -7,12 +7,12 @@ use Rattle.ariadne_search.specs.Folders.{entered_in}
 use Rattle.ariadne_search.specs.Search.{texts_of, outer_of, IsElsewhere}
 use Rattle.ariadne_search.specs.declared.search.Search.{Search}
 use Rattle.ariadne_parse.specs.declared.diagnostic.Diagnostic.{Diagnostic}
-use Rattle.ariadne_parse.specs.declared.diagnostic.Place.{Place}
-use Rattle.ariadne_show.specs.FoundPlaces.{files_of, held_at, unit_in}
+use Rattle.ariadne_parse.specs.declared.diagnostic.Span.{Span}
+use Rattle.ariadne_show.specs.FoundSpans.{files_of, held_at, unit_in}
 use Rattle.ariadne_show.specs.LinesAndColumns.{caret_in_line}
 use Rattle.ariadne_show.specs.ReadFiles.{AreFilesSettled, AreOpened, IsSettledNow}
 use Rattle.ariadne_show.specs.declared.finder.Finder.{Finder}
-use Rattle.ariadne_show.specs.declared.held.Held.{Held}
+use Rattle.ariadne_show.specs.declared.held.HeldFile.{HeldFile}
 use Rattle.ariadne_show.specs.declared.shelf.Shelf.{Shelf}
 
 -- ---- where files are looked for
@@ -33,26 +33,26 @@ pub record IsSearchFor (finder : Finder) (manifest : Option (List ℕ)) (search 
 
 -- ---- files that are held
 
--- the file of a place is: it was read, or a diagnostic quotes it
-abbrev pub is_held : Finder → Place → Bool
-is_held finder place = is_some (held_at (files_of finder.shelf) (string_bytes place.file))
+-- the file of a span is: it was read, or a diagnostic quotes it
+abbrev pub is_held : Finder → Span → Bool
+is_held finder span = is_some (held_at (files_of finder.shelf) (string_bytes span.file))
 
--- that of the first place of a diagnostic is
-abbrev pub is_first_of_held : Finder → List Place → Bool
+-- that of the first span of a diagnostic is
+abbrev pub is_first_of_held : Finder → List Span → Bool
 is_first_of_held finder [] = false
-is_first_of_held finder (place ∷ places) = is_held finder place
+is_first_of_held finder (span ∷ spans) = is_held finder span
 
 abbrev pub is_first_held : Finder → Diagnostic → Bool
-is_first_held finder told = is_first_of_held finder told.places.items
+is_first_held finder parsed = is_first_of_held finder parsed.spans.items
 
--- the character of its line, from 0, that the tool points at in the first place of a diagnostic, if that names a
+-- the character of its line, from 0, that the tool points at in the first span of a diagnostic, if that names a
 -- column and its file is held
 abbrev pub caret_at : Finder → Diagnostic → Option ℕ
-caret_at finder told =
-    option_and_then (caret_in_line (files_of finder.shelf)) (slice_get told.places.items 0)
+caret_at finder parsed =
+    option_and_then (caret_in_line (files_of finder.shelf)) (slice_get parsed.spans.items 0)
 
 -- one as a snippet quotes it
-abbrev pub quoted_of : Held → File
+abbrev pub quoted_of : HeldFile → File
 quoted_of held = record {
   characters = held.columns;
   byte_unit = unit_in held Byte;
@@ -64,25 +64,25 @@ file_at shelf path = option_map quoted_of (held_at (files_of shelf) path)
 
 -- ---- files that were looked for
 
--- the files of a diagnostic were: its places have the paths at which they were found
-pub record IsOpened (told opened : Diagnostic) (first last : Finder) : Type 0 where
+-- the files of a diagnostic were: its spans have the paths at which they were found
+pub record IsOpened (parsed opened : Diagnostic) (first last : Finder) : Type 0 where
   pub search : Search
-  pub looked : IsSearchFor first (option_map string_bytes told.manifest) search
-  pub places : AreOpened search told.quoted.items told.places.items opened.places.items first.shelf last.shelf
-  pub others : opened ≡ record told { places = opened.places }
+  pub looked : IsSearchFor first (option_map string_bytes parsed.manifest) search
+  pub spans : AreOpened search parsed.quoted.items parsed.spans.items opened.spans.items first.shelf last.shelf
+  pub others : opened ≡ record parsed { spans = opened.spans }
   pub finder : last ≡ record first { shelf = last.shelf }
 
 -- those that it proposes to change were: its proposals have the paths at which they were found
-pub record AreChangedFound (told found : Diagnostic) (first last : Finder) : Type 0 where
+pub record AreChangedFound (parsed found : Diagnostic) (first last : Finder) : Type 0 where
   pub search : Search
-  pub looked : IsSearchFor first (option_map string_bytes told.manifest) search
-  pub files : AreFilesSettled search told.proposals.items found.proposals.items first.shelf last.shelf
-  pub others : found ≡ record told { proposals = found.proposals }
+  pub looked : IsSearchFor first (option_map string_bytes parsed.manifest) search
+  pub files : AreFilesSettled search parsed.proposals.items found.proposals.items first.shelf last.shelf
+  pub others : found ≡ record parsed { proposals = found.proposals }
   pub finder : last ≡ record first { shelf = last.shelf }
 
--- that of a place was that a line by itself tells
-pub record IsPlaceSettled (place settled : Place) (first last : Finder) : Type 0 where
+-- that of a span was that a line by itself tells
+pub record IsSpanSettled (span settled : Span) (first last : Finder) : Type 0 where
   pub search : Search
   pub looked : IsSearchFor first None search
-  pub place_settled : IsSettledNow search place settled first.shelf last.shelf
+  pub span_settled : IsSettledNow search span settled first.shelf last.shelf
   pub finder : last ≡ record first { shelf = last.shelf }

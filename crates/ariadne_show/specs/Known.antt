@@ -2,20 +2,20 @@
 -- snippet, as one that may go on with a message, or as one that waits for what follows.
 use Rattle.std.specs.Prelude.{ℕ, ◌≡◌, ◌==◌, Bool, true, false, not, ◌&&◌, ◌||◌, List, [], ◌∷◌, ◌++◌, flat_map, length, map}
 use Rattle.std.specs.Prelude.{Option, Some, None, is_some}
-use Rattle.ariadne_blocks.specs.Blocks.{is_about, may_go_on, path_of, told_of, view_of, HasNoMoreRows, IsMore, IsNamed}
-use Rattle.ariadne_blocks.specs.Blocks.{IsPlaceTold, IsQuotedBy, IsRow, IsSameBlock}
-use Rattle.ariadne_blocks.specs.MarkedSpots.{all_settled, marks_at, marks_of}
+use Rattle.ariadne_blocks.specs.Blocks.{is_about, may_go_on, path_of, parsed_of, view_of, HasNoMoreRows, IsMore, IsNamed}
+use Rattle.ariadne_blocks.specs.Blocks.{IsSpanParsed, IsQuotedBy, IsRow, IsSameBlock}
+use Rattle.ariadne_blocks.specs.MarkedLocations.{all_settled, marks_at, marks_of}
 use Rattle.ariadne_blocks.specs.Repeats.{once}
 use Rattle.ariadne_blocks.specs.declared.block.Block.{Block}
 use Rattle.ariadne_blocks.specs.declared.line.Line.{Line}
 use Rattle.ariadne_parse.specs.Arrows.{arrow_in}
-use Rattle.ariadne_parse.specs.ArrowsTold.{place_of_arrow}
-use Rattle.ariadne_parse.specs.Places.{seen}
+use Rattle.ariadne_parse.specs.ArrowsParsed.{span_of_arrow}
+use Rattle.ariadne_parse.specs.Spans.{seen}
 use Rattle.ariadne_parse.specs.Sent.{has_text}
 use Rattle.ariadne_parse.specs.declared.diagnostic.Diagnostic.{Diagnostic}
-use Rattle.ariadne_parse.specs.declared.diagnostic.Place.{Place}
-use Rattle.ariadne_parse.specs.declared.diagnostic.Spot.{Spot}
-use Rattle.ariadne_show.specs.Finding.{file_at, is_held, IsNewFinder, IsPlaceSettled}
+use Rattle.ariadne_parse.specs.declared.diagnostic.Span.{Span}
+use Rattle.ariadne_parse.specs.declared.diagnostic.Location.{Location}
+use Rattle.ariadne_show.specs.Finding.{file_at, is_held, IsNewFinder, IsSpanSettled}
 use Rattle.ariadne_show.specs.WaitingLines.{added_row, ends_in_head, lines_of, HasRow, IsRoleOf}
 use Rattle.ariadne_show.specs.declared.finder.Finder.{Finder}
 use Rattle.ariadne_show.specs.declared.front.PlacedHead.{PlacedHead}
@@ -51,21 +51,21 @@ is_waited_for known = is_some known.block || has_waiting_lines known
 -- a note is about the diagnostic that is held, if one is
 abbrev pub is_note_of_block : Diagnostic → Option Block → Bool
 is_note_of_block note None = false
-is_note_of_block note (Some block) = is_about (told_of block) note
+is_note_of_block note (Some block) = is_about (parsed_of block) note
 
 abbrev pub is_note_of : Diagnostic → Known → Bool
 is_note_of note known = is_note_of_block note known.block
 
 -- ---- rows of a snippet
 
--- where a row names a place whose file can be read, the next rows quote that; any other place is told
+-- where a row names a span whose file can be read, the next rows quote that; any other span is told
 pub data IsNamedQuoted (first last : Finder) (before after : Block) : Type 0 where
   names_none : IsNamed before after None → last ≡ first → IsNamedQuoted first last before after
-  unread : (named : Block) (place settled : Place) → IsNamed before named (Some place)
-      → IsPlaceSettled place settled first last → is_held last settled ≡ false
-      → IsPlaceTold settled named after → IsNamedQuoted first last before after
-  quotes : (named : Block) (place settled : Place) → IsNamed before named (Some place)
-      → IsPlaceSettled place settled first last → is_held last settled ≡ true
+  unread : (named : Block) (span settled : Span) → IsNamed before named (Some span)
+      → IsSpanSettled span settled first last → is_held last settled ≡ false
+      → IsSpanParsed settled named after → IsNamedQuoted first last before after
+  quotes : (named : Block) (span settled : Span) → IsNamed before named (Some span)
+      → IsSpanSettled span settled first last → is_held last settled ≡ true
       → IsQuotedBy settled named after → IsNamedQuoted first last before after
 
 -- a line was taken in as a row of the snippet of a diagnostic, which had not ended
@@ -148,7 +148,7 @@ pub record IsRowAdded (line row : List ℕ) (first last : Known) : Type 0 where
 -- a line waits with that head, as a further row of its message
 pub record WaitsWithHead (line : Line) (first last : Known) : Type 0 where
   pub row : List ℕ
-  pub told : added_row first.front.items line.text.now ≡ Some row
+  pub parsed : added_row first.front.items line.text.now ≡ Some row
   pub added : IsRowAdded line.bytes.now row first last
 
 -- or behind those that do, since it may stand in front of a diagnostic
@@ -174,44 +174,44 @@ abbrev pub IsWaiting : Line → Known → Known → Bool → Type 0
 IsWaiting line first last true = Waits line first last
 IsWaiting line first last false = WaitsNot line first last
 
--- a head that waited has the place that an arrow names
-pub record HasPlace (arrow : List ℕ × Spot × Bool) (waiting : WaitingLine) (head : PlacedHead) : Type 0 where
+-- a head that waited has the span that an arrow names
+pub record HasSpan (arrow : List ℕ × Location × Bool) (waiting : WaitingLine) (head : PlacedHead) : Type 0 where
   pub waited : WaitingHead
-  pub place : Place
+  pub span : Span
   pub is_head : waiting.role ≡ role.Head waited
   pub lines : head.lines ≡ waiting.lines
-  pub named : seen place ≡ place_of_arrow arrow
-  pub places : head.told.places.items ≡ waited.told.places.items ++ place ∷ []
-  pub others : head.told ≡ record waited.told { places = head.told.places }
+  pub named : seen span ≡ span_of_arrow arrow
+  pub spans : head.parsed.spans.items ≡ waited.parsed.spans.items ++ span ∷ []
+  pub others : head.parsed ≡ record waited.parsed { spans = head.parsed.spans }
 
-abbrev pub IsPlacedNow : List ℕ × Spot × Bool → WaitingLine → Option PlacedHead → Type 0
+abbrev pub IsPlacedNow : List ℕ × Location × Bool → WaitingLine → Option PlacedHead → Type 0
 IsPlacedNow arrow waiting None = ⊥
-IsPlacedNow arrow waiting (Some head) = HasPlace arrow waiting head
+IsPlacedNow arrow waiting (Some head) = HasSpan arrow waiting head
 
 -- that is the last line that waits, and it waits no more
-pub record IsHeadPlaced (arrow : List ℕ × Spot × Bool) (first last : Known) (head : PlacedHead) : Type 0 where
+pub record IsHeadPlaced (arrow : List ℕ × Location × Bool) (first last : Known) (head : PlacedHead) : Type 0 where
   pub waiting : WaitingLine
-  pub has_place : HasPlace arrow waiting head
+  pub has_span : HasSpan arrow waiting head
   pub waited : first.front.items ≡ last.front.items ++ waiting ∷ []
   pub known : last ≡ record first { front = last.front }
 
-abbrev pub IsPlacedAt : List ℕ × Spot × Bool → Known → Known → Option PlacedHead → Type 0
+abbrev pub IsPlacedAt : List ℕ × Location × Bool → Known → Known → Option PlacedHead → Type 0
 IsPlacedAt arrow first last None = ⊥
 IsPlacedAt arrow first last (Some head) = IsHeadPlaced arrow first last head
 
 -- so it has that which a line names
 pub record IsPlacedBy (text : List ℕ) (first last : Known) (head : PlacedHead) : Type 0 where
-  pub arrow : List ℕ × Spot × Bool
+  pub arrow : List ℕ × Location × Bool
   pub named : arrow_in text ≡ Some arrow
   pub placed : IsHeadPlaced arrow first last head
 
 -- or the line names none, or no head waits so
-pub record PlacesNone (text : List ℕ) (first last : Known) : Type 0 where
+pub record SpansNone (text : List ℕ) (first last : Known) : Type 0 where
   pub none : (is_some (arrow_in text) && ends_in_head first.front.items) ≡ false
   pub same : last ≡ first
 
 abbrev pub IsPlacedIn : List ℕ → Known → Known → Option PlacedHead → Type 0
-IsPlacedIn text first last None = PlacesNone text first last
+IsPlacedIn text first last None = SpansNone text first last
 IsPlacedIn text first last (Some head) = IsPlacedBy text first last head
 
 -- ---- notes
@@ -219,7 +219,7 @@ IsPlacedIn text first last (Some head) = IsPlacedBy text first last head
 -- the diagnostic in front is given out for a note that is about it
 pub record IsGivenOut (note : Diagnostic) (first last : Known) (block : Block) : Type 0 where
   pub held : first.block ≡ Some block
-  pub about : is_about (told_of block) note ≡ true
+  pub about : is_about (parsed_of block) note ≡ true
   pub known : last ≡ record first { block = None }
 
 -- or the note is about none
@@ -233,12 +233,12 @@ IsBlockTaken note first last (Some block) = IsGivenOut note first last block
 
 -- ---- the end of a diagnostic
 
--- a diagnostic of which all lines were read is settled: its places without marks have those that were drawn at the
--- same spots, and then those that repeat others are left out
-pub record AreMarksSettled (told settled : Diagnostic) (first last : Known) : Type 0 where
-  pub places : map seen settled.places.items
-      ≡ once (all_settled [] (map marks_of first.marked.items) (map seen told.places.items))
-  pub others : settled ≡ record told { places = settled.places }
+-- a diagnostic of which all lines were read is settled: its spans without marks have those that were drawn at the
+-- same locations, and then those that repeat others are left out
+pub record AreMarksSettled (parsed settled : Diagnostic) (first last : Known) : Type 0 where
+  pub spans : map seen settled.spans.items
+      ≡ once (all_settled [] (map marks_of first.marked.items) (map seen parsed.spans.items))
+  pub others : settled ≡ record parsed { spans = settled.spans }
   pub marked : map marks_of last.marked.items
-      ≡ flat_map marks_at (all_settled [] (map marks_of first.marked.items) (map seen told.places.items))
+      ≡ flat_map marks_at (all_settled [] (map marks_of first.marked.items) (map seen parsed.spans.items))
   pub known : last ≡ record first { marked = last.marked }

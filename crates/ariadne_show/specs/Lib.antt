@@ -5,7 +5,7 @@ pub mod ColorChoice
 pub mod Drawn
 pub mod Faults
 pub mod Finding
-pub mod FoundPlaces
+pub mod FoundSpans
 pub mod WaitingLines
 pub mod Known
 pub mod FoundLabels

@@ -31,13 +31,13 @@ has_room (Some most) drawn = nat_lt drawn most
 
 -- a diagnostic is drawn behind those that were
 abbrev pub is_drawn : Limits → Diagnostic → DrawnCount → Bool
-is_drawn limits told count =
-    is_reached limits.least told.severity && (told.is_sum || has_room limits.most count.drawn)
+is_drawn limits parsed count =
+    is_reached limits.least parsed.severity && (parsed.is_sum || has_room limits.most count.drawn)
 
 -- how many are then
 abbrev pub drawn_after : Limits → Diagnostic → DrawnCount → DrawnCount
-drawn_after limits told count =
-    if told.is_sum || not (is_reached limits.least told.severity) then count
+drawn_after limits parsed count =
+    if parsed.is_sum || not (is_reached limits.least parsed.severity) then count
     else (if has_room limits.most count.drawn then record count { drawn = one_more count.drawn }
     else record count { more = one_more count.more })
 

@@ -30,8 +30,8 @@ use Rattle.ariadne_show.specs.declared.options.Style.{Style}
 use Rattle.ariadne_show.specs.declared.options.Width.{Width}
 use Rattle.ariadne_show.specs.declared.options.Width.TheVariants as width
 use Rattle.ariadne_show.specs.declared.pages.Page.TheVariants.{Help, Version}
-use Rattle.ariadne_show.specs.declared.words.Asked.{Asked}
-use Rattle.ariadne_show.specs.declared.words.Asked.TheVariants.{Show, Page}
+use Rattle.ariadne_show.specs.declared.words.Request.{Request}
+use Rattle.ariadne_show.specs.declared.words.Request.TheVariants.{Show, Page}
 
 -- ---- what an entry means
 
@@ -162,14 +162,14 @@ AreInputsOf rows inputs =
 -- ---- what the words ask for
 
 -- the words ask for this
-abbrev pub IsAskedOf : Names → List (List ℕ) → Asked → Type 0
+abbrev pub IsAskedOf : Names → List (List ℕ) → Request → Type 0
 IsAskedOf names words (Show options inputs) = (refusals names words ≡ [])
     × AreOptionsOf (entries names words) options × AreInputsOf (entries names words) inputs.items
     × IsWidthIn (value (entries names words) (codes "width")) (Some options.width)
 IsAskedOf names words (Page Help) = IsAmong kind.DisplayHelp (refusals names words)
 IsAskedOf names words (Page Version) = IsAmong kind.DisplayVersion (refusals names words)
 
-abbrev pub IsAskedBy : List (List ℕ) → Asked → Type 0
+abbrev pub IsAskedBy : List (List ℕ) → Request → Type 0
 IsAskedBy words asked = ForNames (λ names. IsAskedOf names words asked)
 
 -- something is wrong with words: what `clap` says of them is more than that they ask for a page, or

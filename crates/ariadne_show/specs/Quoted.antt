@@ -7,7 +7,7 @@ use Rattle.std.specs.Int.{abs_diff}
 use Rattle.std.specs.List.{find, flat_map, range_with_len}
 use Rattle.std.specs.Str.{bytes_eq}
 use Rattle.ariadne_parse.specs.declared.diagnostic.QuotedLine.{QuotedLine}
-use Rattle.ariadne_show.specs.declared.held.Held.{Held}
+use Rattle.ariadne_show.specs.declared.held.HeldFile.{HeldFile}
 
 -- ---- which lines are held
 
@@ -56,7 +56,7 @@ abbrev pub text_held : List ℕ → List QuotedLine → ℕ × ℕ → List ℕ
 text_held path quoted lines = quoted_lines path quoted lines.0 (lines.1 - lines.0)
 
 -- what is held of the file at a path is quoted
-pub record IsQuotedFile (path : List ℕ) (quoted : List QuotedLine) (held : Held) : Type 0 where
+pub record IsQuotedFile (path : List ℕ) (quoted : List QuotedLine) (held : HeldFile) : Type 0 where
   pub utf8 : held.is_utf8 ≡ true
   pub mark : held.has_mark ≡ false
   pub last : ℕ

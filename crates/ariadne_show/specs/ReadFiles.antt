@@ -10,13 +10,13 @@ use Rattle.ariadne_safe.specs.Sources.{given_of, listing_of, name_of, sources_of
 use Rattle.ariadne_safe.specs.declared.sources.SafeSource.{SafeSource}
 use Rattle.ariadne_search.specs.Search.{candidates}
 use Rattle.ariadne_search.specs.declared.search.Search.{Search}
-use Rattle.ariadne_parse.specs.declared.diagnostic.Place.{Place}
+use Rattle.ariadne_parse.specs.declared.diagnostic.Span.{Span}
 use Rattle.ariadne_parse.specs.declared.diagnostic.Proposal.{Proposal}
 use Rattle.ariadne_parse.specs.declared.diagnostic.QuotedLine.{QuotedLine}
-use Rattle.ariadne_show.specs.FoundPlaces.{Files, files_of, held_at, quoted_in, read_in}
+use Rattle.ariadne_show.specs.FoundSpans.{Files, files_of, held_at, quoted_in, read_in}
 use Rattle.ariadne_show.specs.Quoted.{lines_held, text_held, IsQuotedFile}
 use Rattle.ariadne_show.specs.declared.held.FileText.{FileText}
-use Rattle.ariadne_show.specs.declared.held.Held.{Held}
+use Rattle.ariadne_show.specs.declared.held.HeldFile.{HeldFile}
 use Rattle.ariadne_show.specs.declared.shelf.Shelf.{Shelf}
 
 -- ---- a file
@@ -36,7 +36,7 @@ pub record IsTextOf (bytes : List ℕ) (file : FileText) : Type 0 where
   pub text : chars (string_bytes file.text) ≡ characters bytes
 
 -- a file of these bytes is held
-pub record IsFileOf (bytes : List ℕ) (held : Held) : Type 0 where
+pub record IsFileOf (bytes : List ℕ) (held : HeldFile) : Type 0 where
   pub utf8 : held.is_utf8 ≡ is_utf8 bytes
   pub mark : held.has_mark ≡ starts_with nat_eq bytes byte_order_mark
   pub columns : held.columns ≡ characters bytes
@@ -49,7 +49,7 @@ shown_text above text = record { text = visible_bytes CompilerLines text; displa
 
 -- a source is that of the file at a path: it has the path as its name, and shows the characters that are
 -- held of it, in lines that are numbered as the file's
-pub record IsSourceOf (path : List ℕ) (held : Held) (source : SafeSource) : Type 0 where
+pub record IsSourceOf (path : List ℕ) (held : HeldFile) (source : SafeSource) : Type 0 where
   pub name : name_of source ≡ Some (visible_bytes OneRow path)
   pub text : chars (given_of source) ≡ held.columns
   pub shown : listing_of source ≡ shown_text held.above (given_of source)
@@ -68,7 +68,7 @@ abbrev pub sources_in : Shelf → List SafeSource
 sources_in shelf = sources_of shelf.sources
 
 -- the file at a path was read: these were its bytes, and the source with its number is its own
-pub record IsRead (sources : List SafeSource) (path : List ℕ) (held : Held) : Type 0 where
+pub record IsRead (sources : List SafeSource) (path : List ℕ) (held : HeldFile) : Type 0 where
   pub bytes : List ℕ
   pub file : IsFileOf bytes held
   pub source : SafeSource
@@ -76,7 +76,7 @@ pub record IsRead (sources : List SafeSource) (path : List ℕ) (held : Held) : 
   pub own : IsSourceOf path held source
 
 -- lines of the file at a path are held as they are quoted, and the source with its number is its own
-pub record IsQuoted (sources : List SafeSource) (path : List ℕ) (held : Held) : Type 0 where
+pub record IsQuoted (sources : List SafeSource) (path : List ℕ) (held : HeldFile) : Type 0 where
   pub lines : List QuotedLine
   pub file : IsQuotedFile path lines held
   pub source : SafeSource
@@ -85,15 +85,15 @@ pub record IsQuoted (sources : List SafeSource) (path : List ℕ) (held : Held) 
 
 -- each file that was read has its source, and so has each one that is quoted
 pub record HaveSources (shelf : Shelf) : Type 0 where
-  pub read : (path : List ℕ) (held : Held) → read_in shelf path ≡ Some (Some held)
+  pub read : (path : List ℕ) (held : HeldFile) → read_in shelf path ≡ Some (Some held)
       → IsRead (sources_in shelf) path held
-  pub quoted : (path : List ℕ) (held : Held) → quoted_in shelf path ≡ Some held
+  pub quoted : (path : List ℕ) (held : HeldFile) → quoted_in shelf path ≡ Some held
       → IsQuoted (sources_in shelf) path held
 
 -- ---- one after the other
 
 -- the bytes of a file were read, and its source stands behind the others
-pub record IsHeldBehind (old new : List SafeSource) (path bytes : List ℕ) (held : Held) : Type 0 where
+pub record IsHeldBehind (old new : List SafeSource) (path bytes : List ℕ) (held : HeldFile) : Type 0 where
   pub file : IsFileOf bytes held
   pub source : SafeSource
   pub behind : new ≡ old ++ source ∷ []
@@ -101,7 +101,7 @@ pub record IsHeldBehind (old new : List SafeSource) (path bytes : List ℕ) (hel
   pub own : IsSourceOf path held source
 
 -- lines of a file are held as they are quoted, and its source stands behind the others
-pub record IsQuotedBehind (old new : List SafeSource) (path : List ℕ) (lines : List QuotedLine) (held : Held) : Type 0 where
+pub record IsQuotedBehind (old new : List SafeSource) (path : List ℕ) (lines : List QuotedLine) (held : HeldFile) : Type 0 where
   pub file : IsQuotedFile path lines held
   pub source : SafeSource
   pub behind : new ≡ old ++ source ∷ []
@@ -109,7 +109,7 @@ pub record IsQuotedBehind (old new : List SafeSource) (path : List ℕ) (lines :
   pub own : IsSourceOf path held source
 
 -- a file was read, or it could not be
-abbrev pub IsTried : List SafeSource → List SafeSource → List ℕ → Option Held → Type 0
+abbrev pub IsTried : List SafeSource → List SafeSource → List ℕ → Option HeldFile → Type 0
 IsTried old new path None = new ≡ old
 IsTried old new path (Some held) = (bytes : List ℕ) × IsHeldBehind old new path bytes held
 
@@ -151,17 +151,17 @@ pub record HaveSearched (paths : List (List ℕ)) (found : Option (List ℕ)) (o
   pub quoted : (path : List ℕ) → quoted_in new path ≡ quoted_in old path
   pub sources : HaveSources new
 
--- ---- the files of places
+-- ---- the files of spans
 
--- a place has the path of its file, where that was found, and is else as it was
-pub record IsSettled (search : Search) (files : Files) (before after : Place) : Type 0 where
+-- a span has the path of its file, where that was found, and is else as it was
+pub record IsSettled (search : Search) (files : Files) (before after : Span) : Type 0 where
   pub found : Option (List ℕ)
   pub first : IsFirst files (candidates search (string_bytes before.file)) found
   pub file : string_bytes after.file ≡ unwrap_or found (string_bytes before.file)
   pub others : after ≡ record before { file = after.file }
 
 -- and its file was looked for
-pub record IsSettledNow (search : Search) (before after : Place) (old new : Shelf) : Type 0 where
+pub record IsSettledNow (search : Search) (before after : Span) (old new : Shelf) : Type 0 where
   pub kept : AreKept (read_in old) (read_in new)
   pub settled : IsSettled search (read_in new) before after
   pub quoted : (path : List ℕ) → quoted_in new path ≡ quoted_in old path
@@ -170,7 +170,7 @@ pub record IsSettledNow (search : Search) (before after : Place) (old new : Shel
 -- what is held as it is quoted are these lines
 abbrev pub AreQuotedIn : List QuotedLine → Shelf → Type 0
 AreQuotedIn lines shelf =
-    (path : List ℕ) → (held : Held) → quoted_in shelf path ≡ Some held → IsQuotedFile path lines held
+    (path : List ℕ) → (held : HeldFile) → quoted_in shelf path ≡ Some held → IsQuotedFile path lines held
 
 -- of the file at a path lines are held, if it could not be read and some are quoted
 abbrev pub IsHeldIfQuoted : List QuotedLine → Shelf → List ℕ → Type 0
@@ -184,20 +184,20 @@ pub record IsQuotedNow (lines : List QuotedLine) (path : List ℕ) (old new : Sh
   pub held : IsHeldIfQuoted lines new path
   pub sources : HaveSources new
 
--- those of the files of places are, and none but these
-pub record AreQuoted (lines : List QuotedLine) (places : List Place) (old new : Shelf) : Type 0 where
+-- those of the files of spans are, and none but these
+pub record AreQuoted (lines : List QuotedLine) (spans : List Span) (old new : Shelf) : Type 0 where
   pub same : (q : List ℕ) → read_in new q ≡ read_in old q
   pub quoted : AreQuotedIn lines new
-  pub held : All (λ place. IsHeldIfQuoted lines new (string_bytes place.file)) places
+  pub held : All (λ span. IsHeldIfQuoted lines new (string_bytes span.file)) spans
   pub sources : HaveSources new
 
--- the files of all places were looked for, and of those that can't be read the lines are held that are quoted
-pub record AreOpened (search : Search) (lines : List QuotedLine) (before after : List Place) (old new : Shelf)
+-- the files of all spans were looked for, and of those that can't be read the lines are held that are quoted
+pub record AreOpened (search : Search) (lines : List QuotedLine) (before after : List Span) (old new : Shelf)
     : Type 0 where
   pub kept : AreKept (read_in old) (read_in new)
   pub settled : AllZip (IsSettled search (read_in new)) before after
   pub quoted : AreQuotedIn lines new
-  pub held : All (λ place. IsHeldIfQuoted lines new (string_bytes place.file)) after
+  pub held : All (λ span. IsHeldIfQuoted lines new (string_bytes span.file)) after
   pub sources : HaveSources new
 
 -- ---- the files of proposals

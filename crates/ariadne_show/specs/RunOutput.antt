@@ -2,14 +2,14 @@
 -- shown once. It passes, or is dropped, or tells diagnostics that are whole; or it is the head of one whose
 -- next lines may tell more, and then each of them that belongs to it goes to it, and it is written where the
 -- first comes that does not, or at the end. Lines that may stand in front of a diagnostic wait for its head,
--- and then give it their places, or pass.
+-- and then give it their spans, or pass.
 use Rattle.std.specs.Prelude.{ℕ, ◌≡◌, Bool, true, false, ◌&&◌, List, [], ◌∷◌, ◌++◌, map}
 use Rattle.std.specs.Prelude.{Option, Some, None, Vec, ⊤}
 use Rattle.std.specs.Io.KnownBytes.{Appends, IsAtEnd}
 use Rattle.std.specs.declared.alloc.Global.{Global}
 use Rattle.serde_json.specs.Written.{compact_text}
-use Rattle.ariadne_blocks.specs.Blocks.{is_about, lines_behind, told_of, IsBegun, IsNoted}
-use Rattle.ariadne_blocks.specs.Blocks.{IsPlacedBy as IsPlaceAdded}
+use Rattle.ariadne_blocks.specs.Blocks.{is_about, lines_behind, parsed_of, IsBegun, IsNoted}
+use Rattle.ariadne_blocks.specs.Blocks.{IsPlacedBy as IsSpanAdded}
 use Rattle.ariadne_blocks.specs.Repeats.{once}
 use Rattle.ariadne_blocks.specs.declared.block.Block.{Block}
 use Rattle.ariadne_blocks.specs.declared.line.Line.{Line}
@@ -17,19 +17,19 @@ use Rattle.ariadne_outputs.specs.Sarif.{driver_of}
 use Rattle.ariadne_outputs.specs.declared.sarif.TheConstants.{BEHIND, FRONT, SARIF_TAIL}
 use Rattle.ariadne_search.specs.Folders.{entered_in, followed}
 use Rattle.ariadne_search.specs.Make.{move_in}
-use Rattle.ariadne_parse.specs.Places.{seen}
+use Rattle.ariadne_parse.specs.Spans.{seen}
 use Rattle.ariadne_documents.specs.Documents.{begins, step_of, text_with, value_of}
 use Rattle.ariadne_documents.specs.declared.document.Step.TheVariants.{Broken, Ended, GoesOn}
-use Rattle.ariadne_parse.specs.ParsedLines.{reads_text}
+use Rattle.ariadne_parse.specs.ParsedDiagnostics.{reads_text}
 use Rattle.ariadne_parse.specs.declared.diagnostic.Diagnostic.{Diagnostic}
-use Rattle.ariadne_parse.specs.declared.diagnostic.Place.{Place}
+use Rattle.ariadne_parse.specs.declared.diagnostic.Span.{Span}
 use Rattle.ariadne_parse.specs.declared.sent.Sent.{Sent}
 use Rattle.ariadne_parse.specs.declared.telling.Answer.{Answer}
 use Rattle.ariadne_parse.specs.declared.telling.Answer.TheVariants as answer
-use Rattle.ariadne_show.specs.Finding.{AreChangedFound, caret_at, is_first_held, is_held, IsOpened, IsPlaceSettled}
+use Rattle.ariadne_show.specs.Finding.{AreChangedFound, caret_at, is_first_held, is_held, IsOpened, IsSpanSettled}
 use Rattle.ariadne_show.specs.WaitingLines.{bytes_in, lines_of, passing_of}
 use Rattle.ariadne_show.specs.Known.{is_note_of, AreMarksSettled, IsMoreInFront, IsNew, IsNoRowInFront, IsPlacedBy}
-use Rattle.ariadne_show.specs.Known.{IsRowInFront, MayNotGoOn, PlacesNone, Waits, WaitsNot}
+use Rattle.ariadne_show.specs.Known.{IsRowInFront, MayNotGoOn, SpansNone, Waits, WaitsNot}
 use Rattle.ariadne_show.specs.Limits.{more_text}
 use Rattle.ariadne_show.specs.InputLines.{IsLineOf, ReadsLine}
 use Rattle.ariadne_documents.specs.Answers.{is_whole, reads_values, IsDocumentParsed, IsLineParsed}
@@ -46,8 +46,8 @@ use Rattle.ariadne_show.specs.declared.known.Known.{Known}
 use Rattle.ariadne_show.specs.declared.options.Options.{Options}
 use Rattle.ariadne_show.specs.declared.options.Output.{Output}
 use Rattle.ariadne_show.specs.declared.run.Run.{Run}
-use Rattle.ariadne_show.specs.declared.showing.Ending.{Ending}
-use Rattle.ariadne_show.specs.declared.showing.Ending.TheVariants.{AtEnd, Unread}
+use Rattle.ariadne_show.specs.declared.showing.InputEnd.{InputEnd}
+use Rattle.ariadne_show.specs.declared.showing.InputEnd.TheVariants.{AtEnd, Unread}
 use Rattle.ariadne_show.specs.declared.showing.TheConstants.{VERSION}
 use Rattle.ariadne_show.specs.declared.sum.Sum.{Sum}
 
@@ -65,10 +65,10 @@ with_finder at finder = record at { known = record at.known { finder = finder } 
 
 -- ---- a diagnostic
 
--- one whose places are settled was shown, over its files and those that it proposes to change
-pub record IsSettledShown (options : Options) (told : Diagnostic) (first last : At) : Type 0 where
+-- one whose spans are settled was shown, over its files and those that it proposes to change
+pub record IsSettledShown (options : Options) (parsed : Diagnostic) (first last : At) : Type 0 where
   pub found : Diagnostic
-  pub changed : AreChangedFound told found first.known.finder last.known.finder
+  pub changed : AreChangedFound parsed found first.known.finder last.known.finder
   pub once : IsShownOnce options last.known.finder.shelf found first.out last.out
   pub known : last.known ≡ record first.known { finder = last.known.finder }
 
@@ -76,11 +76,11 @@ pub record IsSettledShown (options : Options) (told : Diagnostic) (first last : 
 
 -- it was shown, and the lines passed that turned out to be none of it
 pub record IsBlockWritten (options : Options) (block : Block) (first last : At) : Type 0 where
-  pub told : Diagnostic
+  pub parsed : Diagnostic
   pub marked : Known
-  pub settled : AreMarksSettled (told_of block) told first.known marked
+  pub settled : AreMarksSettled (parsed_of block) parsed first.known marked
   pub shown : At
-  pub once : IsSettledShown options told (record first { known = marked }) shown
+  pub once : IsSettledShown options parsed (record first { known = marked }) shown
   pub behind : HavePassed options (lines_behind block) shown.out last.out
   pub known : last.known ≡ shown.known
 
@@ -111,16 +111,16 @@ pub record IsLinePassed (options : Options) (line : List ℕ) (first last : At) 
 
 -- ---- diagnostics that are whole
 
--- one has no places that repeat others any more
-pub record HasNoRepeats (told single : Diagnostic) : Type 0 where
-  pub places : map seen single.places.items ≡ once (map seen told.places.items)
-  pub others : single ≡ record told { places = single.places }
+-- one has no spans that repeat others any more
+pub record HasNoRepeats (parsed single : Diagnostic) : Type 0 where
+  pub spans : map seen single.spans.items ≡ once (map seen parsed.spans.items)
+  pub others : single ≡ record parsed { spans = single.spans }
 
 -- one was shown over its files
-pub record IsWholeShown (options : Options) (told : Diagnostic) (first last : At) : Type 0 where
+pub record IsWholeShown (options : Options) (parsed : Diagnostic) (first last : At) : Type 0 where
   pub opened : Diagnostic
   pub finder : Finder
-  pub files : IsOpened told opened first.known.finder finder
+  pub files : IsOpened parsed opened first.known.finder finder
   pub single : Diagnostic
   pub repeats : HasNoRepeats opened single
   pub shown : IsSettledShown options single (with_finder first finder) last
@@ -129,7 +129,7 @@ pub record IsWholeShown (options : Options) (told : Diagnostic) (first last : At
 pub data AreShown (options : Options) : List Diagnostic → At → At → Type 0 where
   none_shown : {a : At} → AreShown options [] a a
   one_shown_more : {all : List Diagnostic} {a b c : At} → AreShown options all a b
-      → (told : Diagnostic) → IsWholeShown options told b c → AreShown options (all ++ told ∷ []) a c
+      → (parsed : Diagnostic) → IsWholeShown options parsed b c → AreShown options (all ++ parsed ∷ []) a c
 
 -- behind what was held
 pub record AreAllShown (options : Options) (all : List Diagnostic) (first last : At) : Type 0 where
@@ -145,26 +145,26 @@ pub record Giving : Type 0 where
   pub block : Block
   pub out : Out
 
--- a line tells no place
-abbrev pub tells_place : Role → Bool
-tells_place (role.Place place) = true
-tells_place (role.Head head) = false
-tells_place role.Scope = false
+-- a line tells no span
+abbrev pub tells_span : Role → Bool
+tells_span (role.Span span) = true
+tells_span (role.Head head) = false
+tells_span role.Scope = false
 
--- the place of a line goes to the diagnostic, if its file can be read; else the line passed
-pub data IsPlaceGone (options : Options) (lines : List (List ℕ)) (place : Place) (first last : Giving) : Type 0 where
-  gave_place : (settled : Place) → IsPlaceSettled place settled first.finder last.finder
-      → is_held last.finder settled ≡ true → IsPlaceAdded settled first.block last.block
-      → last.out ≡ first.out → IsPlaceGone options lines place first last
-  passed_unread : (settled : Place) → IsPlaceSettled place settled first.finder last.finder
+-- the span of a line goes to the diagnostic, if its file can be read; else the line passed
+pub data IsSpanGone (options : Options) (lines : List (List ℕ)) (span : Span) (first last : Giving) : Type 0 where
+  gave_span : (settled : Span) → IsSpanSettled span settled first.finder last.finder
+      → is_held last.finder settled ≡ true → IsSpanAdded settled first.block last.block
+      → last.out ≡ first.out → IsSpanGone options lines span first last
+  passed_unread : (settled : Span) → IsSpanSettled span settled first.finder last.finder
       → is_held last.finder settled ≡ false → HavePassed options lines first.out last.out
-      → last.block ≡ first.block → IsPlaceGone options lines place first last
+      → last.block ≡ first.block → IsSpanGone options lines span first last
 
--- a line gave its place so, or tells none and passed
+-- a line gave its span so, or tells none and passed
 pub data HasLineGone (options : Options) (line : WaitingLine) (first last : Giving) : Type 0 where
-  told_place : (place : Place) → line.role ≡ role.Place place
-      → IsPlaceGone options (lines_of line) place first last → HasLineGone options line first last
-  passed_placeless : tells_place line.role ≡ false → HavePassed options (lines_of line) first.out last.out
+  told_span : (span : Span) → line.role ≡ role.Span span
+      → IsSpanGone options (lines_of line) span first last → HasLineGone options line first last
+  passed_placeless : tells_span line.role ≡ false → HavePassed options (lines_of line) first.out last.out
       → last.finder ≡ first.finder → last.block ≡ first.block → HasLineGone options line first last
 
 -- so did all that waited, in their order
@@ -188,19 +188,19 @@ pub record IsFrontGiven (options : Options) (first : At) (block : Block) (last :
 abbrev pub with_block : At → Block → At
 with_block at block = record at { known = record at.known { block = Some block } }
 
--- one is held, behind the one that was in front, and has the places of the lines that waited
-pub record IsBegunBehind (options : Options) (head : List ℕ) (told : Diagnostic) (first last : At)
+-- one is held, behind the one that was in front, and has the spans of the lines that waited
+pub record IsBegunBehind (options : Options) (head : List ℕ) (parsed : Diagnostic) (first last : At)
     : Type 0 where
   pub finished : At
   pub before : IsBlockFinished options first finished
   pub begun : Block
-  pub head_told : IsBegun told head (caret_at finished.known.finder told) begun
+  pub head_parsed : IsBegun parsed head (caret_at finished.known.finder parsed) begun
   pub given : At
   pub block : Block
   pub front : IsFrontGiven options finished begun given block
   pub held : last ≡ with_block given block
 
--- a note was given to a diagnostic, with the places of the lines that waited, and that is held
+-- a note was given to a diagnostic, with the spans of the lines that waited, and that is held
 pub record IsNoteAddedTo (options : Options) (before : Block) (note : Diagnostic) (first last : At) : Type 0 where
   pub given : At
   pub block : Block
@@ -212,24 +212,24 @@ pub record IsNoteAddedTo (options : Options) (before : Block) (note : Diagnostic
 -- ---- heads and notes
 
 -- a head begins a diagnostic where its file can be read; else its line passed
-pub data IsHeadShown (options : Options) (line : Line) (told : Diagnostic) (first last : At) : Type 0 where
-  began : (opened : Diagnostic) (finder : Finder) → IsOpened told opened first.known.finder finder
+pub data IsHeadShown (options : Options) (line : Line) (parsed : Diagnostic) (first last : At) : Type 0 where
+  began : (opened : Diagnostic) (finder : Finder) → IsOpened parsed opened first.known.finder finder
       → is_first_held finder opened ≡ true
       → IsBegunBehind options line.text.now opened (with_finder first finder) last
-      → IsHeadShown options line told first last
-  head_passed : (opened : Diagnostic) (finder : Finder) → IsOpened told opened first.known.finder finder
+      → IsHeadShown options line parsed first last
+  head_passed : (opened : Diagnostic) (finder : Finder) → IsOpened parsed opened first.known.finder finder
       → is_first_held finder opened ≡ false
       → IsLinePassed options line.bytes.now (with_finder first finder) last
-      → IsHeadShown options line told first last
+      → IsHeadShown options line parsed first last
 
--- so does one that waited, at the place that a line names; else its lines passed, and that line
+-- so does one that waited, at the span that a line names; else its lines passed, and that line
 pub data IsPlacedShown (options : Options) (line : Line) (head : PlacedHead) (first last : At) : Type 0 where
-  began_placed : (opened : Diagnostic) (finder : Finder) → IsOpened head.told opened first.known.finder finder
+  began_placed : (opened : Diagnostic) (finder : Finder) → IsOpened head.parsed opened first.known.finder finder
       → is_first_held finder opened ≡ true
       → IsBegunBehind options line.text.now opened (with_finder first finder) last
       → IsPlacedShown options line head first last
   all_passed : (opened : Diagnostic) (finder : Finder) (finished : At) (head_passed : Out)
-      → IsOpened head.told opened first.known.finder finder → is_first_held finder opened ≡ false
+      → IsOpened head.parsed opened first.known.finder finder → is_first_held finder opened ≡ false
       → IsFinished options (with_finder first finder) finished
       → HavePassed options (bytes_in head.lines.items) finished.out head_passed
       → HasPassed options line.bytes.now head_passed last.out → last.known ≡ finished.known
@@ -240,7 +240,7 @@ pub data IsPlacedShown (options : Options) (line : Line) (head : PlacedHead) (fi
 pub data IsNoteShown (options : Options) (line : Line) (note : Diagnostic) (first last : At) : Type 0 where
   note_added : (opened : Diagnostic) (finder : Finder) (block : Block)
       → IsOpened note opened first.known.finder finder → is_first_held finder opened ≡ true
-      → first.known.block ≡ Some block → is_about (told_of block) opened ≡ true
+      → first.known.block ≡ Some block → is_about (parsed_of block) opened ≡ true
       → IsNoteAddedTo options block opened (without_block (with_finder first finder)) last
       → IsNoteShown options line note first last
   note_began : (opened : Diagnostic) (finder : Finder) → IsOpened note opened first.known.finder finder
@@ -270,20 +270,20 @@ pub data IsOtherShown (options : Options) (line : Line) (first last : At) : Type
       → HasPassed options line.bytes.now followed.out last.out → last.known ≡ followed.known
       → IsOtherShown options line first last
 
--- a line of text that names no kind beside a place names the place of a head that waits, waits itself, goes on
+-- a line of text that names no kind beside a span names the span of a head that waits, waits itself, goes on
 -- with a message, or is another
 pub data IsTextShown (options : Options) (line : Line) (first last : At) : Type 0 where
-  names_place : (known : Known) (head : PlacedHead) → IsPlacedBy line.text.now first.known known head
+  names_span : (known : Known) (head : PlacedHead) → IsPlacedBy line.text.now first.known known head
       → IsPlacedShown options line head (record first { known = known }) last
       → IsTextShown options line first last
-  waits_in_front : PlacesNone line.text.now first.known first.known
+  waits_in_front : SpansNone line.text.now first.known first.known
       → Waits line first.known last.known → last.out ≡ first.out
       → IsTextShown options line first last
-  goes_on : PlacesNone line.text.now first.known first.known
+  goes_on : SpansNone line.text.now first.known first.known
       → WaitsNot line first.known first.known
       → IsMoreInFront line first.known last.known → last.out ≡ first.out
       → IsTextShown options line first last
-  other : PlacesNone line.text.now first.known first.known
+  other : SpansNone line.text.now first.known first.known
       → WaitsNot line first.known first.known → MayNotGoOn line first.known
       → IsOtherShown options line first last → IsTextShown options line first last
 
@@ -298,19 +298,19 @@ pub data IsAnswered (options : Options) (line : Line) (first last : At) : Answer
   dropped : IsFinished options first last → IsAnswered options line first last answer.Dropped
   whole : (all : Vec Diagnostic Global) → AreAllShown options all.items first last
       → IsAnswered options line first last (answer.Diagnostics all)
-  head : (told : Diagnostic) → IsHeadShown options line told first last
-      → IsAnswered options line first last (answer.Head told)
-  note : (told : Diagnostic) → IsNoteShown options line told first last
-      → IsAnswered options line first last (answer.Note told)
+  head : (parsed : Diagnostic) → IsHeadShown options line parsed first last
+      → IsAnswered options line first last (answer.Head parsed)
+  note : (parsed : Diagnostic) → IsNoteShown options line parsed first last
+      → IsAnswered options line first last (answer.Note parsed)
 
 -- a line was taken in as a row of the snippet of the diagnostic in front, or was shown by what it tells
 pub data IsReadShown (options : Options) (line : Line) (first last : At) : Type 0 where
   row : IsRowInFront line first.known last.known → last.out ≡ first.out
       → IsReadShown options line first last
-  no_row : (tried told_by : Known) (answer : Answer) → IsNoRowInFront first.known tried
-      → IsLineParsed options.reading line.text.now tried.sent told_by.sent answer
-      → told_by ≡ record tried { sent = told_by.sent }
-      → IsAnswered options line (record first { known = told_by }) last answer
+  no_row : (tried parsed_by : Known) (answer : Answer) → IsNoRowInFront first.known tried
+      → IsLineParsed options.reading line.text.now tried.sent parsed_by.sent answer
+      → parsed_by ≡ record tried { sent = parsed_by.sent }
+      → IsAnswered options line (record first { known = parsed_by }) last answer
       → IsReadShown options line first last
 
 -- so was one of these bytes
@@ -346,9 +346,9 @@ pub data IsDocumentShown (options : Options) (bytes : List ℕ) (first last : At
   told_dropped : (sent : Sent)
       → IsDocumentParsed options.reading.format (value_of bytes) first.known.sent sent answer.Dropped
       → IsFinished options (with_sent first sent) last → IsDocumentShown options bytes first last
-  told_none : (sent : Sent) (told : Answer)
-      → IsDocumentParsed options.reading.format (value_of bytes) first.known.sent sent told
-      → is_whole told ≡ false → AreBytesShown options bytes (with_sent first sent) last
+  told_none : (sent : Sent) (parsed : Answer)
+      → IsDocumentParsed options.reading.format (value_of bytes) first.known.sent sent parsed
+      → is_whole parsed ≡ false → AreBytesShown options bytes (with_sent first sent) last
       → IsDocumentShown options bytes first last
 
 -- what a run holds: the lines of a document that goes on, if there is one; and what it knows and has shown
@@ -414,19 +414,19 @@ abbrev pub IsStarted : Output → Option (List ℕ) → Option (List ℕ) → Ty
 IsStarted output before after = IsStartedIn (is_document output) before after
 
 -- the input ends there, or a line can't be read
-abbrev pub EndsSo : Option (List ℕ) → Ending → Type 0
+abbrev pub EndsSo : Option (List ℕ) → InputEnd → Type 0
 EndsSo rest AtEnd = IsAtEnd rest
 EndsSo rest (Unread fault) = ⊤
 
 -- the lines of an input were shown, up to its end or to one that can't be read
-pub record HaveLinesEnded (options : Options) (input : Option (List ℕ)) (first last : Holding) (ending : Ending)
+pub record HaveLinesEnded (options : Options) (input : Option (List ℕ)) (first last : Holding) (ending : InputEnd)
     : Type 0 where
   pub rest : Option (List ℕ)
   pub lines : AreNextShown options input rest first last
   pub ended : EndsSo rest ending
 
 -- and then what is held, in both cases
-pub record IsInputShown (options : Options) (input : Option (List ℕ)) (first last : At) (ending : Ending)
+pub record IsInputShown (options : Options) (input : Option (List ℕ)) (first last : At) (ending : InputEnd)
     : Type 0 where
   pub lines_shown : Holding
   pub lines : HaveLinesEnded options input (holding_of None first) lines_shown ending

@@ -26,7 +26,7 @@ counted_as Note sum = record sum { notes = one_more sum.notes }
 
 -- a diagnostic more, unless it sums up others
 abbrev pub counted : Diagnostic → Sum → Sum
-counted told sum = if told.is_sum then sum else counted_as told.severity sum
+counted parsed sum = if parsed.is_sum then sum else counted_as parsed.severity sum
 
 -- how many diagnostics the status tells of, up to twice the greatest number of the machine
 abbrev pub failing : FailOn → Sum → ℕ

@@ -4,46 +4,46 @@ use Rattle.std.specs.Prelude.{filter, Option, Some, None, is_some, option_map, S
 use Rattle.std.specs.Prelude.{codes, decimal}
 use Rattle.std.specs.Option.{option_to_list}
 use Rattle.std.specs.declared.alloc.Global.{Global}
-use Rattle.ariadne_parse.specs.ParsedLines.{main_of}
+use Rattle.ariadne_parse.specs.ParsedDiagnostics.{main_of}
 use Rattle.ariadne_parse.specs.declared.diagnostic.Diagnostic.{Diagnostic}
-use Rattle.ariadne_parse.specs.declared.diagnostic.Place.{Place}
-use Rattle.ariadne_show.specs.Asides.{spot_text}
-use Rattle.ariadne_show.specs.FoundPlaces.{Files, held_at}
+use Rattle.ariadne_parse.specs.declared.diagnostic.Span.{Span}
+use Rattle.ariadne_show.specs.Asides.{location_text}
+use Rattle.ariadne_show.specs.FoundSpans.{Files, held_at}
 
--- what places say: where each begins that says something, and that
-abbrev pub says_something : Place → Bool
-says_something place = not (length (string_bytes place.text) == 0)
+-- what spans say: where each begins that says something, and that
+abbrev pub says_something : Span → Bool
+says_something span = not (length (string_bytes span.text) == 0)
 
-abbrev pub said_places : List Place → List (List ℕ)
-said_places places =
-    map (λ place. spot_text place (string_bytes place.text)) (filter says_something places)
+abbrev pub said_spans : List Span → List (List ℕ)
+said_spans spans =
+    map (λ span. location_text span (string_bytes span.text)) (filter says_something spans)
 
 -- texts as they are
 abbrev pub said_texts : List (String Global) → List (List ℕ)
 said_texts texts = map string_bytes texts
 
--- why a place can't be drawn
-abbrev pub missing_text : Files → Place → List ℕ
-missing_text files place =
-    codes "not drawn, since " ++ string_bytes place.file
-    ++ (if is_some (held_at files (string_bytes place.file))
-    then codes " has no line " ++ decimal place.start.line
+-- why a span can't be drawn
+abbrev pub missing_text : Files → Span → List ℕ
+missing_text files span =
+    codes "not drawn, since " ++ string_bytes span.file
+    ++ (if is_some (held_at files (string_bytes span.file))
+    then codes " has no line " ++ decimal span.start.line
     else codes " can't be read")
 
--- why its own place can't be drawn, if it has one
+-- why its own span can't be drawn, if it has one
 abbrev pub missing_main : Files → Diagnostic → Option (List ℕ)
-missing_main files told = option_map (missing_text files) (main_of told.places.items)
+missing_main files parsed = option_map (missing_text files) (main_of parsed.spans.items)
 
--- the first line: where its own place begins, if it has one, and its message
-abbrev pub first_line_at : List ℕ → Option Place → List ℕ
+-- the first line: where its own span begins, if it has one, and its message
+abbrev pub first_line_at : List ℕ → Option Span → List ℕ
 first_line_at message None = message
-first_line_at message (Some place) = spot_text place message
+first_line_at message (Some span) = location_text span message
 
 abbrev pub first_line : Diagnostic → List ℕ
-first_line told = first_line_at (string_bytes told.message) (main_of told.places.items)
+first_line parsed = first_line_at (string_bytes parsed.message) (main_of parsed.spans.items)
 
--- the lines behind it: what its places say, its notes and its helps, and why there is no picture
+-- the lines behind it: what its spans say, its notes and its helps, and why there is no picture
 abbrev pub lines_of : Files → Diagnostic → List (List ℕ)
-lines_of files told =
-    said_places told.places.items ++ said_texts told.notes.items ++ said_texts told.helps.items
-    ++ option_to_list (missing_main files told)
+lines_of files parsed =
+    said_spans parsed.spans.items ++ said_texts parsed.notes.items ++ said_texts parsed.helps.items
+    ++ option_to_list (missing_main files parsed)

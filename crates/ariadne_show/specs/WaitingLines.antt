@@ -1,5 +1,5 @@
--- Lines that may stand in front of a diagnostic, and wait for it: those that tell one of its places, those
--- that tell all of it but its place, and those that say what the tool was in. A message of several rows has its
+-- Lines that may stand in front of a diagnostic, and wait for it: those that tell one of its spans, those
+-- that tell all of it but its span, and those that say what the tool was in. A message of several rows has its
 -- further ones below its head, as far to the right as it begins there; they wait with the head.
 use Rattle.std.specs.Prelude.{ℕ, ◌≡◌, ◌-◌, ◌==◌, nat_le, Bool, true, false, ◌&&◌, if◌then◌else◌}
 use Rattle.std.specs.Prelude.{List, [], ◌∷◌, ◌++◌, drop, length, map, slice_get}
@@ -9,11 +9,11 @@ use Rattle.std.specs.Option.{option_map_or}
 use Rattle.std.specs.declared.alloc.Global.{Global}
 use Rattle.ariadne_blocks.specs.declared.message.MessageLine.{MessageLine}
 use Rattle.ariadne_parse.specs.Arrows.{bare_head_in}
-use Rattle.ariadne_parse.specs.ArrowsTold.{Bare, bare_of, IsOfBareHead}
+use Rattle.ariadne_parse.specs.ArrowsParsed.{Bare, bare_of, IsOfBareHead}
 use Rattle.ariadne_parse.specs.Fronts.{Front, front_in, is_scope_line}
-use Rattle.ariadne_parse.specs.FrontsTold.{place_of_front}
-use Rattle.ariadne_parse.specs.Places.{seen}
-use Rattle.ariadne_parse.specs.declared.diagnostic.Place.{Place}
+use Rattle.ariadne_parse.specs.FrontsParsed.{span_of_front}
+use Rattle.ariadne_parse.specs.Spans.{seen}
+use Rattle.ariadne_parse.specs.declared.diagnostic.Span.{Span}
 use Rattle.ariadne_show.specs.declared.front.Role.{Role}
 use Rattle.ariadne_show.specs.declared.front.Role.TheVariants as role
 use Rattle.ariadne_show.specs.declared.front.WaitingHead.{WaitingHead}
@@ -41,7 +41,7 @@ bytes_of lines = map (λ line. line.bytes.items) lines
 
 -- a line that waits is the head of a diagnostic
 abbrev pub is_head_role : Role → Bool
-is_head_role (role.Place place) = false
+is_head_role (role.Span span) = false
 is_head_role (role.Head head) = true
 is_head_role role.Scope = false
 
@@ -52,13 +52,13 @@ is_head waiting = is_head_role waiting.role
 abbrev pub ends_in_head : List WaitingLine → Bool
 ends_in_head lines = option_map_or is_head (slice_get lines (length lines - 1)) false
 
--- a text may stand in front of a diagnostic: as a place, as its head, or as what the tool was in, where
+-- a text may stand in front of a diagnostic: as a span, as its head, or as what the tool was in, where
 -- something is waited for
 pub data IsRoleOf (is_waited_for : Bool) (text : List ℕ) : Option Role → Type 0 where
-  tells_place : (front : Front) (place : Place) → front_in text ≡ Some front
-      → seen place ≡ place_of_front front → IsRoleOf is_waited_for text (Some (role.Place place))
+  tells_span : (front : Front) (span : Span) → front_in text ≡ Some front
+      → seen span ≡ span_of_front front → IsRoleOf is_waited_for text (Some (role.Span span))
   is_bare_head : (bare : Bare) (head : WaitingHead) → front_in text ≡ None
-      → option_map bare_of (bare_head_in text) ≡ Some bare → IsOfBareHead bare head.told
+      → option_map bare_of (bare_head_in text) ≡ Some bare → IsOfBareHead bare head.parsed
       → head.margin ≡ length text - length bare.message
       → IsRoleOf is_waited_for text (Some (role.Head head))
   tells_scope : front_in text ≡ None → bare_head_in text ≡ None
@@ -75,7 +75,7 @@ behind_blanks margin text =
 
 -- the row that a text adds to the message of a head that waits
 abbrev pub row_of_role : Role → List ℕ → Option (List ℕ)
-row_of_role (role.Place place) text = None
+row_of_role (role.Span span) text = None
 row_of_role (role.Head head) text = behind_blanks head.margin text
 row_of_role role.Scope text = None
 
@@ -90,6 +90,6 @@ pub record HasRow (line row : List ℕ) (before after : WaitingLine) : Type 0 wh
   pub longer : WaitingHead
   pub was : before.role ≡ role.Head shorter
   pub is : after.role ≡ role.Head longer
-  pub message : string_bytes longer.told.message ≡ string_bytes shorter.told.message ++ 10 ∷ row
-  pub others : longer ≡ record shorter { told = record shorter.told { message = longer.told.message } }
+  pub message : string_bytes longer.parsed.message ≡ string_bytes shorter.parsed.message ++ 10 ∷ row
+  pub others : longer ≡ record shorter { parsed = record shorter.parsed { message = longer.parsed.message } }
   pub lines : lines_of after ≡ lines_of before ++ line ∷ []

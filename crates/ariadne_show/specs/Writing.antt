@@ -9,14 +9,14 @@ use Rattle.serde_json.specs.Written.{compact_text}
 use Rattle.ariadne_parse.specs.declared.unit.Unit.{Unit}
 use Rattle.ariadne_parse.specs.declared.unit.Unit.TheVariants.{Byte, Char}
 use Rattle.ariadne_outputs.specs.Github.{github_commands, without_command}
-use Rattle.ariadne_outputs.specs.Located.{Location}
+use Rattle.ariadne_outputs.specs.Located.{LocatedSpan}
 use Rattle.ariadne_outputs.specs.Passing.{passed_line}
 use Rattle.ariadne_outputs.specs.Sarif.{result_of}
 use Rattle.ariadne_outputs.specs.Short.{short_rows}
 use Rattle.ariadne_safe.specs.declared.sources.SafeSource.{SafeSource}
 use Rattle.ariadne_parse.specs.declared.diagnostic.Diagnostic.{Diagnostic}
-use Rattle.ariadne_show.specs.Drawn.{IsToldDrawn}
-use Rattle.ariadne_show.specs.FoundPlaces.{files_of, Files}
+use Rattle.ariadne_show.specs.Drawn.{IsParsedDrawn}
+use Rattle.ariadne_show.specs.FoundSpans.{files_of, Files}
 use Rattle.ariadne_show.specs.Limits.{drawn_after, is_drawn, limits_of}
 use Rattle.ariadne_show.specs.LinesAndColumns.{located_in, main_first}
 use Rattle.ariadne_show.specs.ReadFiles.{sources_in}
@@ -88,16 +88,16 @@ unit_of Sarif = Char
 unit_of Picture = Byte
 unit_of Short = Byte
 
--- where its places stand, its own first
-abbrev pub locations : Files → Output → Diagnostic → List Location
-locations files output told = map (located_in files (unit_of output)) (main_first told.places.items)
+-- where its spans stand, its own first
+abbrev pub spans_of_output : Files → Output → Diagnostic → List LocatedSpan
+spans_of_output files output parsed = map (located_in files (unit_of output)) (main_first parsed.spans.items)
 
 -- its text in a form for other programs
-abbrev pub text_in : Output → Diagnostic → List Location → List ℕ
-text_in Github told places = github_commands told places
-text_in Sarif told places = compact_text (result_of told places)
-text_in Picture told places = short_rows told places
-text_in Short told places = short_rows told places
+abbrev pub text_in : Output → Diagnostic → List LocatedSpan → List ℕ
+text_in Github parsed spans = github_commands parsed spans
+text_in Sarif parsed spans = compact_text (result_of parsed spans)
+text_in Picture parsed spans = short_rows parsed spans
+text_in Short parsed spans = short_rows parsed spans
 
 -- what the output ends with behind it
 abbrev pub behind_text : Output → Written
@@ -115,38 +115,38 @@ is_picture Sarif = false
 
 -- one more was counted
 abbrev pub counted_in : Options → Diagnostic → Shown → Shown
-counted_in options told shown = record shown {
-  sum = counted told shown.sum;
-  drawn = drawn_after (limits_of options) told shown.drawn;
+counted_in options parsed shown = record shown {
+  sum = counted parsed shown.sum;
+  drawn = drawn_after (limits_of options) parsed shown.drawn;
   is_told_last = true;
 }
 
 -- a diagnostic has been written: as a picture, behind a row where one stands in front; or as a text for
 -- other programs, unless it sums up others
-pub data IsWritten (options : Options) (files : Files) (sources : List SafeSource) (told : Diagnostic)
+pub data IsWritten (options : Options) (files : Files) (sources : List SafeSource) (parsed : Diagnostic)
     (first last : Written) (before after : Option (List ℕ)) : Type 0 where
   as_picture : (parted : Option (List ℕ)) → is_picture options.output ≡ true
       → Appends before parted (gap first options.style.is_compact)
-      → IsToldDrawn options.style files sources told parted after → last ≡ written.Picture
-      → IsWritten options files sources told first last before after
-  left_out : is_picture options.output ≡ false → told.is_sum ≡ true → after ≡ before → last ≡ first
-      → IsWritten options files sources told first last before after
-  as_text : (parted : Option (List ℕ)) → is_picture options.output ≡ false → told.is_sum ≡ false
+      → IsParsedDrawn options.style files sources parsed parted after → last ≡ written.Picture
+      → IsWritten options files sources parsed first last before after
+  left_out : is_picture options.output ≡ false → parsed.is_sum ≡ true → after ≡ before → last ≡ first
+      → IsWritten options files sources parsed first last before after
+  as_text : (parted : Option (List ℕ)) → is_picture options.output ≡ false → parsed.is_sum ≡ false
       → Appends before parted (comma first)
-      → Appends parted after (text_in options.output told (locations files options.output told))
+      → Appends parted after (text_in options.output parsed (spans_of_output files options.output parsed))
       → last ≡ behind_text options.output
-      → IsWritten options files sources told first last before after
+      → IsWritten options files sources parsed first last before after
 
 -- one whose files were read was counted, and written, if the limits let it
-pub data IsShownOnce (options : Options) (shelf : Shelf) (told : Diagnostic) (first last : Out) : Type 0 where
-  counted_alone : is_drawn (limits_of options) told first.shown.drawn ≡ false
-      → last ≡ record first { shown = counted_in options told first.shown }
-      → IsShownOnce options shelf told first last
-  counted_and_written : (written : Written) → is_drawn (limits_of options) told first.shown.drawn ≡ true
-      → IsWritten options (files_of shelf) (sources_in shelf) told first.shown.written written first.output
+pub data IsShownOnce (options : Options) (shelf : Shelf) (parsed : Diagnostic) (first last : Out) : Type 0 where
+  counted_alone : is_drawn (limits_of options) parsed first.shown.drawn ≡ false
+      → last ≡ record first { shown = counted_in options parsed first.shown }
+      → IsShownOnce options shelf parsed first last
+  counted_and_written : (written : Written) → is_drawn (limits_of options) parsed first.shown.drawn ≡ true
+      → IsWritten options (files_of shelf) (sources_in shelf) parsed first.shown.written written first.output
       last.output
-      → last.shown ≡ record (counted_in options told first.shown) { written = written }
-      → last.beside ≡ first.beside → IsShownOnce options shelf told first last
+      → last.shown ≡ record (counted_in options parsed first.shown) { written = written }
+      → last.beside ≡ first.beside → IsShownOnce options shelf parsed first last
 
 -- ---- lines that pass
 

@@ -94,12 +94,12 @@ impl<R: Files> Task<'_, R> {
             Answer::Nothing => self.pass_line(run, line.bytes, streams),
             Answer::Dropped => self.finish(run, streams),
             Answer::Diagnostics(all) => self.show_all(run, all, streams),
-            Answer::Head(told) => self.show_head(run, line, told, streams),
+            Answer::Head(parsed) => self.show_head(run, line, parsed, streams),
             Answer::Note(note) => self.show_note(run, line, note, streams),
         }
     }
 
-    /// Shows a line of text that names no kind beside a place: it may name the place of a diagnostic, stand
+    /// Shows a line of text that names no kind beside a span: it may name the span of a diagnostic, stand
     /// in front of one, go on with its message, or be a sum of its tool's own. Else it passes.
     fn show_text<W: Write, F: Write>(
         &self,
@@ -144,7 +144,7 @@ impl<R: Files> Task<'_, R> {
         self.pass(run, line.bytes, streams)
     }
 
-    /// Holds a diagnostic whose head waited, and whose place a line names, if its file can be read. Else
+    /// Holds a diagnostic whose head waited, and whose span a line names, if its file can be read. Else
     /// the lines of the head pass, and that line.
     fn show_placed<W: Write, F: Write>(
         &self,
@@ -158,9 +158,9 @@ impl<R: Files> Task<'_, R> {
             (at_of run.old streams.old) (at_of run.new streams.new)) }
         ensures sources { OnOk result (HaveSources run.new.known.finder.shelf) }
     {
-        let PlacedHead { lines, mut told } = head;
-        if run.known.finder.open(self.files, &mut told)? {
-            return self.begin(run, told, line.text, streams);
+        let PlacedHead { lines, mut parsed } = head;
+        if run.known.finder.open(self.files, &mut parsed)? {
+            return self.begin(run, parsed, line.text, streams);
         }
         self.finish(run, streams)?;
         self.pass_lines(run, lines.as_slice(), streams)?;
@@ -172,16 +172,16 @@ impl<R: Files> Task<'_, R> {
         &self,
         run: &mut Run,
         line: Line<'_>,
-        mut told: Diagnostic,
+        mut parsed: Diagnostic,
         streams: &mut Streams<W, F>,
     ) -> Result<(), Fault>
         requires { HaveSources run.old.known.finder.shelf }
-        ensures shown { OnOk result (IsHeadShown self.now.options.now line.entry told
+        ensures shown { OnOk result (IsHeadShown self.now.options.now line.entry parsed
             (at_of run.old streams.old) (at_of run.new streams.new)) }
         ensures sources { OnOk result (HaveSources run.new.known.finder.shelf) }
     {
-        if run.known.finder.open(self.files, &mut told)? {
-            self.begin(run, told, line.text, streams)
+        if run.known.finder.open(self.files, &mut parsed)? {
+            self.begin(run, parsed, line.text, streams)
         } else {
             self.pass_line(run, line.bytes, streams)
         }

@@ -8,74 +8,74 @@ ghost use Rattle.ariadne_safe.specs.declared.text.TextKind.TheVariants.{Aside};
 ghost use Rattle.ariadne_safe.specs.SafeBuilding.{made_of, sources_under};
 ghost use Rattle.ariadne_show.specs.Asides.{aside_notes, covers, helps_from, helps_of, missing_notes};
 ghost use Rattle.ariadne_show.specs.Asides.{notes_of, own_text, texts_at};
-ghost use Rattle.ariadne_show.specs.Asides.{column_text as text_of_column, spot_name as name_of_spot};
-ghost use Rattle.ariadne_show.specs.Asides.{spot_text as text_of_spot};
+ghost use Rattle.ariadne_show.specs.Asides.{column_text as text_of_column, location_name as name_of_location};
+ghost use Rattle.ariadne_show.specs.Asides.{location_text as text_of_location};
 ghost use Rattle.ariadne_show.specs.Asides.{with_helps as more_helps, with_notes as more_notes};
-ghost use Rattle.ariadne_show.specs.FoundPlaces.{files_of};
+ghost use Rattle.ariadne_show.specs.FoundSpans.{files_of};
 
-use crate::found::found_place;
+use crate::found::found_span;
 use crate::proposed::Sketch;
 use crate::shelf::Shelf;
 use crate::wrapping::wrapped;
-use ariadne_parse::{Diagnostic, Place};
+use ariadne_parse::{Diagnostic, Span};
 use ariadne_safe::SafeBuilder;
 use std::alloc::{AllocError, Global};
 
-/// The report with the notes and helps, and before them a note for each place that can't be drawn, in
+/// The report with the notes and helps, and before them a note for each span that can't be drawn, in
 /// rows of so many columns, or of any number where that is 0. Proposals that are drawn stand in the place of
 /// their helps.
 pub fn with_asides<'s>(
     alloc: Global,
     builder: SafeBuilder<'s>,
     shelf: &Shelf,
-    told: &Diagnostic,
+    parsed: &Diagnostic,
     sketches: &[Sketch],
     width: usize,
 ) -> Result<SafeBuilder<'s>, AllocError>
-    ensures report { IfOk result (λ b. made_of b ≡ more_helps (helps_of width sketches.now told.now)
-        (more_notes (notes_of width (files_of shelf.now) told.now) (made_of builder.entry))) }
+    ensures report { IfOk result (λ b. made_of b ≡ more_helps (helps_of width sketches.now parsed.now)
+        (more_notes (notes_of width (files_of shelf.now) parsed.now) (made_of builder.entry))) }
     ensures sources { IfOk result (λ b. sources_under b ≡ sources_under builder.entry) }
 {
-    let builder = with_missing(alloc, builder, shelf, told.places.as_slice(), width)?;
-    let builder = with_notes(alloc, builder, told.notes.as_slice(), width)?;
-    with_helps(alloc, builder, told.helps.as_slice(), sketches, width)
+    let builder = with_missing(alloc, builder, shelf, parsed.spans.as_slice(), width)?;
+    let builder = with_notes(alloc, builder, parsed.notes.as_slice(), width)?;
+    with_helps(alloc, builder, parsed.helps.as_slice(), sketches, width)
 }
 
-/// The report with a note for each place that can't be drawn.
+/// The report with a note for each span that can't be drawn.
 fn with_missing<'s>(
     alloc: Global,
     builder: SafeBuilder<'s>,
     shelf: &Shelf,
-    places: &[Place],
+    spans: &[Span],
     width: usize,
 ) -> Result<SafeBuilder<'s>, AllocError>
     ensures report { IfOk result (λ b. made_of b ≡ more_notes
-        (missing_notes width (files_of shelf.now) places.now) (made_of builder.entry)) }
+        (missing_notes width (files_of shelf.now) spans.now) (made_of builder.entry)) }
     ensures sources { IfOk result (λ b. sources_under b ≡ sources_under builder.entry) }
 {
     let mut builder = builder;
-    for place in places {
-        builder = with_missing_one(alloc, builder, shelf, place, width)?;
+    for span in spans {
+        builder = with_missing_one(alloc, builder, shelf, span, width)?;
     }
     Ok(builder)
 }
 
-/// The report with a note for a place, if that can't be drawn.
+/// The report with a note for a span, if that can't be drawn.
 fn with_missing_one<'s>(
     alloc: Global,
     builder: SafeBuilder<'s>,
     shelf: &Shelf,
-    place: &Place,
+    span: &Span,
     width: usize,
 ) -> Result<SafeBuilder<'s>, AllocError>
     ensures report { IfOk result (λ b. made_of b ≡ more_notes
-        (missing_notes width (files_of shelf.now) (place.now ∷ [])) (made_of builder.entry)) }
+        (missing_notes width (files_of shelf.now) (span.now ∷ [])) (made_of builder.entry)) }
     ensures sources { IfOk result (λ b. sources_under b ≡ sources_under builder.entry) }
 {
-    match found_place(shelf, place) {
+    match found_span(shelf, span) {
         Some(_) => Ok(builder),
         None => {
-            let note = spot_text(alloc, place, place.text.as_str())?;
+            let note = location_text(alloc, span, span.text.as_str())?;
             let rows = wrapped(alloc, note.as_str(), width)?;
             builder.with_note(rows.as_str())
         }
@@ -195,24 +195,24 @@ fn is_covered(sketches: &[Sketch], number: usize) -> bool
     sketches.iter().any(|sketch| sketch.helps.contains(&number))
 }
 
-/// Where a place begins, as `FILE:LINE:COLUMN`, and what is said of it.
-pub fn spot_text(alloc: Global, place: &Place, said: &str) -> Result<String, AllocError>
-    ensures text { IfOk result (λ text. string_bytes text ≡ text_of_spot place.now said.now) }
+/// Where a span begins, as `FILE:LINE:COLUMN`, and what is said of it.
+pub fn location_text(alloc: Global, span: &Span, said: &str) -> Result<String, AllocError>
+    ensures text { IfOk result (λ text. string_bytes text ≡ text_of_location span.now said.now) }
     ensures behind { IfOk result (λ text.
         (before : List ℕ) × (string_bytes text ≡ before ++ said.now)) }
 {
-    let mut text = spot_name(alloc, place)?;
+    let mut text = location_name(alloc, span)?;
     text.push_str(said)?;
     Ok(text)
 }
 
-/// Where a place begins, in front of what is said of it.
-fn spot_name(alloc: Global, place: &Place) -> Result<String, AllocError>
-    ensures { IfOk result (λ text. string_bytes text ≡ name_of_spot place.now) }
+/// Where a span begins, in front of what is said of it.
+fn location_name(alloc: Global, span: &Span) -> Result<String, AllocError>
+    ensures { IfOk result (λ text. string_bytes text ≡ name_of_location span.now) }
 {
-    let file = place.file.as_str();
-    let line = place.start.line;
-    let column = column_text(alloc, place.start.column)?;
+    let file = span.file.as_str();
+    let line = span.start.line;
+    let column = column_text(alloc, span.start.column)?;
     format!(in alloc; "{file}:{line}{column}: ")
 }
 

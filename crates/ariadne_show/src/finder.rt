@@ -2,13 +2,13 @@
 
 ghost use Rattle.std.specs.Prelude.{◌≡◌, IfOk, OnOk};
 ghost use Rattle.ariadne_show.specs.Finding.{caret_at, is_first_held, is_held, IsNewFinder, IsOpened};
-ghost use Rattle.ariadne_show.specs.Finding.{AreChangedFound, IsPlaceSettled};
+ghost use Rattle.ariadne_show.specs.Finding.{AreChangedFound, IsSpanSettled};
 ghost use Rattle.ariadne_show.specs.ReadFiles.{HaveSources};
 
 use crate::bounds::Bounds;
 use crate::options::Options;
 use crate::shelf::Shelf;
-use ariadne_parse::{Diagnostic, Place};
+use ariadne_parse::{Diagnostic, Span};
 use ariadne_search::{Folders, Origin};
 use std::alloc::{AllocError, Global};
 use std::rt::Files;
@@ -45,21 +45,21 @@ impl Finder {
         })
     }
 
-    /// Has the files of a diagnostic read, gives its places the paths at which they were found, and
-    /// returns whether the file of its first place is held.
-    pub fn open<R: Files>(&mut self, files: &R, told: &mut Diagnostic) -> Result<bool, AllocError>
+    /// Has the files of a diagnostic read, gives its spans the paths at which they were found, and
+    /// returns whether the file of its first span is held.
+    pub fn open<R: Files>(&mut self, files: &R, parsed: &mut Diagnostic) -> Result<bool, AllocError>
         requires { HaveSources self.old.shelf }
-        ensures opened { OnOk result (IsOpened told.old told.new self.old self.new) }
-        ensures held { IfOk result (λ is_held. is_held ≡ is_first_held self.new told.new) }
+        ensures opened { OnOk result (IsOpened parsed.old parsed.new self.old self.new) }
+        ensures held { IfOk result (λ is_held. is_held ≡ is_first_held self.new parsed.new) }
         ensures sources { OnOk result (HaveSources self.new.shelf) }
     {
         let search = self
             .origin
-            .search(told.manifest.as_deref(), self.folders.as_slice());
-        let places = told.places.as_mut_slice();
+            .search(parsed.manifest.as_deref(), self.folders.as_slice());
+        let spans = parsed.spans.as_mut_slice();
         self.shelf
-            .open(files, &search, places, told.quoted.as_slice())?;
-        Ok(self.holds_first(told))
+            .open(files, &search, spans, parsed.quoted.as_slice())?;
+        Ok(self.holds_first(parsed))
     }
 
     /// Has the files read that a diagnostic proposes to change, and gives its proposals the paths at which
@@ -67,53 +67,53 @@ impl Finder {
     pub fn find_changed<R: Files>(
         &mut self,
         files: &R,
-        told: &mut Diagnostic,
+        parsed: &mut Diagnostic,
     ) -> Result<(), AllocError>
         requires { HaveSources self.old.shelf }
-        ensures { OnOk result (AreChangedFound told.old told.new self.old self.new) }
+        ensures { OnOk result (AreChangedFound parsed.old parsed.new self.old self.new) }
     {
         let search = self
             .origin
-            .search(told.manifest.as_deref(), self.folders.as_slice());
+            .search(parsed.manifest.as_deref(), self.folders.as_slice());
         self.shelf
-            .settle_files(files, &search, told.proposals.as_mut_slice())
+            .settle_files(files, &search, parsed.proposals.as_mut_slice())
     }
 
-    /// Whether the file of the first place of a diagnostic is held.
-    fn holds_first(&self, told: &Diagnostic) -> bool
-        ensures { result ≡ is_first_held self.now told.now }
+    /// Whether the file of the first span of a diagnostic is held.
+    fn holds_first(&self, parsed: &Diagnostic) -> bool
+        ensures { result ≡ is_first_held self.now parsed.now }
     {
-        match told.places.first() {
-            Some(place) => self.holds(place),
+        match parsed.spans.first() {
+            Some(span) => self.holds(span),
             None => false,
         }
     }
 
-    /// Whether the file of a place is held.
-    fn holds(&self, place: &Place) -> bool
-        ensures { result ≡ is_held self.now place.now }
+    /// Whether the file of a span is held.
+    fn holds(&self, span: &Span) -> bool
+        ensures { result ≡ is_held self.now span.now }
     {
-        self.shelf.get(place.file.as_str()).is_some()
+        self.shelf.get(span.file.as_str()).is_some()
     }
 
-    /// Has the file of a place read that no tool's manifest goes with, gives the place the path at which
+    /// Has the file of a span read that no tool's manifest goes with, gives the span the path at which
     /// it was found, and returns whether it is held.
-    pub fn settle<R: Files>(&mut self, files: &R, place: &mut Place) -> Result<bool, AllocError>
+    pub fn settle<R: Files>(&mut self, files: &R, span: &mut Span) -> Result<bool, AllocError>
         requires { HaveSources self.old.shelf }
-        ensures settled { OnOk result (IsPlaceSettled place.old place.new self.old self.new) }
-        ensures held { IfOk result (λ is_place_held. is_place_held ≡ is_held self.new place.new) }
+        ensures settled { OnOk result (IsSpanSettled span.old span.new self.old self.new) }
+        ensures held { IfOk result (λ is_span_held. is_span_held ≡ is_held self.new span.new) }
         ensures sources { OnOk result (HaveSources self.new.shelf) }
     {
         let search = self.origin.search(None, self.folders.as_slice());
-        self.shelf.settle(files, &search, place)?;
-        Ok(self.holds(place))
+        self.shelf.settle(files, &search, span)?;
+        Ok(self.holds(span))
     }
 
-    /// The character, from 0 in its line, that the tool points at in the first place of a diagnostic, if
+    /// The character, from 0 in its line, that the tool points at in the first span of a diagnostic, if
     /// that names a column and its file is held.
-    pub fn caret_of(&self, told: &Diagnostic) -> Option<usize>
-        ensures { result ≡ caret_at self.now told.now }
+    pub fn caret_of(&self, parsed: &Diagnostic) -> Option<usize>
+        ensures { result ≡ caret_at self.now parsed.now }
     {
-        self.shelf.caret_in_line(told.places.first()?)
+        self.shelf.caret_in_line(parsed.spans.first()?)
     }
 }

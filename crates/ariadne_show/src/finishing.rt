@@ -69,9 +69,9 @@ impl<R: Files> Task<'_, R> {
             (at_of run.old streams.old) (at_of run.new streams.new)) }
         ensures sources { OnOk result (HaveSources run.new.known.finder.shelf) }
     {
-        let (mut told, behind) = block.finish();
-        run.known.settle(self.alloc, &mut told)?;
-        self.show_settled(run, told, streams)?;
+        let (mut parsed, behind) = block.finish();
+        run.known.settle(self.alloc, &mut parsed)?;
+        self.show_settled(run, parsed, streams)?;
         pass_behind(
             self.alloc,
             self.options,

@@ -1,4 +1,4 @@
-//! Lines in front of a diagnostic that may belong to it. Whether they do is known when its place is read,
+//! Lines in front of a diagnostic that may belong to it. Whether they do is known when its span is read,
 //! and until then they wait.
 
 ghost use Rattle.std.specs.Prelude.{◌≡◌, ◌&&◌, ◌==◌, ◌∷◌, [], true, option_map, IfOk, OnOk};
@@ -8,25 +8,25 @@ ghost use Rattle.ariadne_show.specs.WaitingLines.{ends_in_head as is_head_last, 
 ghost use Rattle.ariadne_show.specs.WaitingLines.{added_row as row_added, behind_blanks as text_behind_blanks, lines_of};
 ghost use Rattle.ariadne_show.specs.WaitingLines.{row_of_role as row_in_role, HasRow, IsRoleOf};
 
-use ariadne_parse::{Diagnostic, Place, bare_head_of, front_of, is_scope_line};
+use ariadne_parse::{Diagnostic, Span, bare_head_of, front_of, is_scope_line};
 use std::alloc::{AllocError, Global};
 
 /// What a line that waits is to the diagnostic behind it.
 #[derive(Drop)]
 pub enum Role {
-    /// It tells one of its places.
-    Place(Place),
-    /// It tells all of it but its place, which the next line may name.
+    /// It tells one of its spans.
+    Span(Span),
+    /// It tells all of it but its span, which the next line may name.
     Head(WaitingHead),
     /// It says what the tool was in, and passes.
     Scope,
 }
 
-/// The head of a diagnostic, which waits for its place.
+/// The head of a diagnostic, which waits for its span.
 #[derive(Drop)]
 pub struct WaitingHead {
     /// What it tells.
-    pub told: Diagnostic,
+    pub parsed: Diagnostic,
     /// How many bytes stand in front of its message: a further row of that begins with as many blanks.
     pub margin: usize,
 }
@@ -57,8 +57,8 @@ impl WaitingLine {
         ensures { OnOk result (HasRow line.now row.now self.old self.new) }
     {
         if let Role::Head(head) = &mut self.role {
-            head.told.message.push('\n')?;
-            head.told.message.push_str(row)?;
+            head.parsed.message.push('\n')?;
+            head.parsed.message.push_str(row)?;
         }
         self.lines.push(bytes_of_line(alloc, line)?)?;
         Ok(())
@@ -70,7 +70,7 @@ impl WaitingLine {
     {
         match &self.role {
             Role::Head(_) => true,
-            Role::Place(_) | Role::Scope => false,
+            Role::Span(_) | Role::Scope => false,
         }
     }
 }
@@ -84,13 +84,13 @@ fn bytes_of_line(alloc: Global, line: &[u8]) -> Result<Vec<u8>, AllocError>
     Ok(bytes)
 }
 
-/// A diagnostic whose head waited, and which has a place now.
+/// A diagnostic whose head waited, and which has a span now.
 #[derive(Drop)]
 pub struct PlacedHead {
     /// The bytes of the lines of its head, each with what ends it.
     pub lines: Vec<Vec<u8>>,
     /// What it tells.
-    pub told: Diagnostic,
+    pub parsed: Diagnostic,
 }
 
 /// Whether the last of lines that wait is the head of a diagnostic.
@@ -117,7 +117,7 @@ fn row_of_role<'a>(role: &Role, text: &'a str) -> Option<&'a str>
 {
     match role {
         Role::Head(head) => behind_blanks(head.margin, text),
-        Role::Place(_) | Role::Scope => None,
+        Role::Span(_) | Role::Scope => None,
     }
 }
 
@@ -145,12 +145,12 @@ pub fn role_of(alloc: Global, is_waited_for: bool, text: &str) -> Result<Option<
     ensures { IfOk result (IsRoleOf is_waited_for text.now) }
 {
     if let Some(front) = front_of(text) {
-        return Ok(Some(Role::Place(front.place(alloc)?)));
+        return Ok(Some(Role::Span(front.span(alloc)?)));
     }
     if let Some(head) = bare_head_of(text) {
-        let told = head.told(alloc)?;
+        let parsed = head.parsed(alloc)?;
         let margin = text.len().saturating_sub(head.message.len());
-        return Ok(Some(Role::Head(WaitingHead { told, margin })));
+        return Ok(Some(Role::Head(WaitingHead { parsed, margin })));
     }
     if tells_scope(is_waited_for, text) {
         return Ok(Some(Role::Scope));

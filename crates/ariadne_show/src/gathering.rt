@@ -1,11 +1,11 @@
-//! A diagnostic of lines of text while it is held: it begins with its head, and has the places of the lines
+//! A diagnostic of lines of text while it is held: it begins with its head, and has the spans of the lines
 //! that waited in front of it and of its notes.
 
 ghost use Rattle.std.specs.Prelude.{◌≡◌, None, OnOk};
 ghost use Rattle.ariadne_show.specs.WaitingLines.{bytes_in};
 ghost use Rattle.ariadne_show.specs.ReadFiles.{HaveSources};
 ghost use Rattle.ariadne_show.specs.RunOutput.{at_of, giving, HasLineGone, IsBegunBehind, IsFrontGiven};
-ghost use Rattle.ariadne_show.specs.RunOutput.{IsNoteAddedTo, IsPlaceGone};
+ghost use Rattle.ariadne_show.specs.RunOutput.{IsNoteAddedTo, IsSpanGone};
 
 use crate::fault::Fault;
 use crate::front::{Role, WaitingLine};
@@ -13,7 +13,7 @@ use crate::run::Run;
 use crate::streams::Streams;
 use crate::task::Task;
 use ariadne_blocks::Block;
-use ariadne_parse::{Diagnostic, Place};
+use ariadne_parse::{Diagnostic, Span};
 use std::io::Write;
 use std::mem;
 use std::rt::Files;
@@ -23,18 +23,18 @@ impl<R: Files> Task<'_, R> {
     pub(crate) fn begin<W: Write, F: Write>(
         &self,
         run: &mut Run,
-        told: Diagnostic,
+        parsed: Diagnostic,
         head: &str,
         streams: &mut Streams<W, F>,
     ) -> Result<(), Fault>
         requires { HaveSources run.old.known.finder.shelf }
-        ensures begun { OnOk result (IsBegunBehind self.now.options.now head.now told
+        ensures begun { OnOk result (IsBegunBehind self.now.options.now head.now parsed
             (at_of run.old streams.old) (at_of run.new streams.new)) }
         ensures sources { OnOk result (HaveSources run.new.known.finder.shelf) }
     {
         self.finish_block(run, streams)?;
-        let caret = run.known.finder.caret_of(&told);
-        let mut block = Block::new(self.alloc, told, head, caret)?;
+        let caret = run.known.finder.caret_of(&parsed);
+        let mut block = Block::new(self.alloc, parsed, head, caret)?;
         self.give_front(run, &mut block, streams)?;
         run.known.block = Some(block);
         Ok(())
@@ -61,7 +61,7 @@ impl<R: Files> Task<'_, R> {
         Ok(())
     }
 
-    /// Gives the places of the lines that wait to a diagnostic. The others pass, and those whose file
+    /// Gives the spans of the lines that wait to a diagnostic. The others pass, and those whose file
     /// can't be read.
     fn give_front<W: Write, F: Write>(
         &self,
@@ -82,7 +82,7 @@ impl<R: Files> Task<'_, R> {
         Ok(())
     }
 
-    /// Gives the place that a line tells which waited to a diagnostic. If it tells none, or its file can't
+    /// Gives the span that a line tells which waited to a diagnostic. If it tells none, or its file can't
     /// be read, it passes.
     fn give_line<W: Write, F: Write>(
         &self,
@@ -101,31 +101,31 @@ impl<R: Files> Task<'_, R> {
     {
         let WaitingLine { lines, role } = waiting;
         match role {
-            Role::Place(place) => self.give_place(run, place, lines.as_slice(), block, streams),
+            Role::Span(span) => self.give_span(run, span, lines.as_slice(), block, streams),
             Role::Head(_) | Role::Scope => self.pass_lines(run, lines.as_slice(), streams),
         }
     }
 
-    /// Gives the place that lines of these bytes tell to a diagnostic. If its file can't be read, the lines
+    /// Gives the span that lines of these bytes tell to a diagnostic. If its file can't be read, the lines
     /// pass.
-    fn give_place<W: Write, F: Write>(
+    fn give_span<W: Write, F: Write>(
         &self,
         run: &mut Run,
-        mut place: Place,
+        mut span: Span,
         lines: &[Vec<u8>],
         block: &mut Block,
         streams: &mut Streams<W, F>,
     ) -> Result<(), Fault>
         requires { HaveSources run.old.known.finder.shelf }
-        ensures gone { OnOk result (IsPlaceGone self.now.options.now (bytes_in lines.now) place
+        ensures gone { OnOk result (IsSpanGone self.now.options.now (bytes_in lines.now) span
             (giving (at_of run.old streams.old) block.old)
             (giving (at_of run.new streams.new) block.new)) }
         ensures known { OnOk result (run.new.known
             ≡ record run.old.known { finder = run.new.known.finder }) }
         ensures sources { OnOk result (HaveSources run.new.known.finder.shelf) }
     {
-        if run.known.finder.settle(self.files, &mut place)? {
-            block.add_place(place)?;
+        if run.known.finder.settle(self.files, &mut span)? {
+            block.add_span(span)?;
             return Ok(());
         }
         self.pass_lines(run, lines, streams)

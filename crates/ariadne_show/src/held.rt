@@ -1,13 +1,13 @@
 //! A file as it is held: what its columns count, and the number of its source.
 
 ghost use Rattle.std.specs.Prelude.{◌≡◌, ◌≤◌, chars, length, string_bytes, IfOk, IfSome};
-ghost use Rattle.ariadne_show.specs.FoundPlaces.{caret_in, end_of, end_spot_in, mark_before, span_in};
-ghost use Rattle.ariadne_show.specs.FoundPlaces.{caret_in_marks, char_at as char_in};
-ghost use Rattle.ariadne_show.specs.FoundPlaces.{is_sure as is_sure_in, marked_in, own_span_in, spot_by, spot_in, unit_in};
-ghost use Rattle.ariadne_show.specs.DrawnProposals.{span_of};
+ghost use Rattle.ariadne_show.specs.FoundSpans.{caret_in, end_location_in, end_of, mark_before, range_in};
+ghost use Rattle.ariadne_show.specs.FoundSpans.{caret_in_marks, char_at as char_in};
+ghost use Rattle.ariadne_show.specs.FoundSpans.{is_sure as is_sure_in, location_by, location_in, marked_in, own_range_in, unit_in};
+ghost use Rattle.ariadne_show.specs.DrawnProposals.{range_of};
 ghost use Rattle.ariadne_show.specs.ReadFiles.{IsTextOf};
 
-use ariadne_parse::{Change, Columns, End, Place, Proposal, Spot, Unit};
+use ariadne_parse::{Change, Columns, End, Location, Proposal, Span, Unit};
 use std::alloc::{AllocError, Global};
 use std::ops::Range;
 
@@ -59,7 +59,7 @@ fn latin_text(alloc: Global, bytes: &[u8]) -> Result<String, AllocError>
 
 /// A file that was read, or lines that are quoted of one.
 #[derive(Drop)]
-pub struct Held {
+pub struct HeldFile {
     /// The number of its source.
     pub number: usize,
     /// Its columns.
@@ -74,67 +74,67 @@ pub struct Held {
     pub is_read: bool,
 }
 
-impl Held {
-    /// The characters of a place, if the file has its start: the first, from 0, and the one behind the
+impl HeldFile {
+    /// The characters of a span, if the file has its start: the first, from 0, and the one behind the
     /// last. An end that the file doesn't have is the end of the file. Where a tool's own marks cover the
-    /// place, they are those that the marks cover.
-    pub fn span(&self, place: &Place) -> Option<Range<usize>>
-        ensures span { result ≡ span_in self.now place.now }
-        ensures forward { IfSome result (λ span. span.start ≤ span.end) }
+    /// span, they are those that the marks cover.
+    pub fn range(&self, span: &Span) -> Option<Range<usize>>
+        ensures range { result ≡ range_in self.now span.now }
+        ensures forward { IfSome result (λ range. range.start ≤ range.end) }
     {
-        match place.marks {
+        match span.marks {
             Some(marks) => self.marked(marks),
-            None => self.own_span(place),
+            None => self.own_range(span),
         }
     }
 
-    /// The characters of a place, whatever marks cover it.
-    #[tactic(auto, unfolding(crate::specs::FoundPlaces::own_span_in))]
-    fn own_span(&self, place: &Place) -> Option<Range<usize>>
-        ensures span { result ≡ own_span_in self.now place.now }
-        ensures forward { IfSome result (λ span. span.start ≤ span.end) }
+    /// The characters of a span, whatever marks cover it.
+    #[tactic(auto, unfolding(crate::specs::FoundSpans::own_range_in))]
+    fn own_range(&self, span: &Span) -> Option<Range<usize>>
+        ensures range { result ≡ own_range_in self.now span.now }
+        ensures forward { IfSome result (λ range. range.start ≤ range.end) }
     {
-        let start = self.offset(place, place.start, 1)?;
-        let end = self.end(place, start);
+        let start = self.offset(span, span.start, 1)?;
+        let end = self.end(span, start);
         Some(start..end.max(start))
     }
 
-    /// The characters that marks cover, from a spot up to another.
-    #[tactic(auto, unfolding(crate::specs::FoundPlaces::marked_in))]
-    fn marked(&self, marks: (Spot, Spot)) -> Option<Range<usize>>
-        ensures span { result ≡ marked_in self.now marks }
-        ensures forward { IfSome result (λ span. span.start ≤ span.end) }
+    /// The characters that marks cover, from a location up to another.
+    #[tactic(auto, unfolding(crate::specs::FoundSpans::marked_in))]
+    fn marked(&self, marks: (Location, Location)) -> Option<Range<usize>>
+        ensures range { result ≡ marked_in self.now marks }
+        ensures forward { IfSome result (λ range. range.start ≤ range.end) }
     {
         let start = self.char_at(marks.0)?;
         let end = self.char_at(marks.1)?.max(start);
         Some(start..end)
     }
 
-    /// The offset of a spot whose column counts characters.
-    #[tactic(auto, unfolding(crate::specs::FoundPlaces::char_at))]
-    fn char_at(&self, spot: Spot) -> Option<usize>
-        ensures { result ≡ char_in self.now spot }
+    /// The offset of a location whose column counts characters.
+    #[tactic(auto, unfolding(crate::specs::FoundSpans::char_at))]
+    fn char_at(&self, location: Location) -> Option<usize>
+        ensures { result ≡ char_in self.now location }
     {
-        let line = spot.line.saturating_sub(self.above);
+        let line = location.line.saturating_sub(self.above);
         self.columns
-            .offset(Unit::Char, line, spot.column.unwrap_or(1))
+            .offset(Unit::Char, line, location.column.unwrap_or(1))
     }
 
     /// The character that the tool points at, if the file has it: the first that its marks cover, where
     /// it names no column, or one that they don't cover, as gcc does whose columns are those of a terminal.
     /// A column that counts characters is sure.
-    pub fn caret(&self, place: &Place) -> Option<usize>
-        ensures { result ≡ caret_in self.now place.now }
+    pub fn caret(&self, span: &Span) -> Option<usize>
+        ensures { result ≡ caret_in self.now span.now }
     {
-        let caret = self.offset(place, place.caret, 1)?;
-        match place.marks {
-            Some(marks) if !is_sure(place) => Some(self.marked_caret(marks, caret)),
+        let caret = self.offset(span, span.caret, 1)?;
+        match span.marks {
+            Some(marks) if !is_sure(span) => Some(self.marked_caret(marks, caret)),
             _ => Some(caret),
         }
     }
 
     /// The character that a tool points at whose marks cover this.
-    fn marked_caret(&self, marks: (Spot, Spot), caret: usize) -> usize
+    fn marked_caret(&self, marks: (Location, Location), caret: usize) -> usize
         ensures { result ≡ caret_in_marks (marked_in self.now marks) caret }
     {
         match self.marked(marks) {
@@ -143,59 +143,65 @@ impl Held {
         }
     }
 
-    /// Where a place ends that starts at an offset.
-    fn end(&self, place: &Place, start: usize) -> usize
+    /// Where a span ends that starts at an offset.
+    fn end(&self, span: &Span, start: usize) -> usize
         requires { start ≤ length self.now.columns }
-        ensures { result ≡ end_of self.now place.now start place.now.end }
+        ensures { result ≡ end_of self.now span.now start span.now.end }
     {
-        match place.end {
-            End::Before(spot) => self.end_at(place, spot),
-            End::Behind(spot) => self.end_at(place, spot).saturating_add(1),
-            End::OfWord if place.start.column.is_some() => self.columns.word_end(start),
-            End::OfWord => self.end_at(place, place.start),
+        match span.end {
+            End::Before(location) => self.end_at(span, location),
+            End::Behind(location) => self.end_at(span, location).saturating_add(1),
+            End::OfWord if span.start.column.is_some() => self.columns.word_end(start),
+            End::OfWord => self.end_at(span, span.start),
         }
     }
 
-    /// The offset of the spot where a place ends: the end of its line, where it names no column.
-    #[tactic(auto, unfolding(crate::specs::FoundPlaces::end_spot_in))]
-    fn end_at(&self, place: &Place, spot: Spot) -> usize
-        ensures { result ≡ end_spot_in self.now place.now spot }
+    /// The offset of the location where a span ends: the end of its line, where it names no column.
+    #[tactic(auto, unfolding(crate::specs::FoundSpans::end_location_in))]
+    fn end_at(&self, span: &Span, location: Location) -> usize
+        ensures { result ≡ end_location_in self.now span.now location }
     {
-        match self.offset(place, spot, usize::MAX) {
+        match self.offset(span, location, usize::MAX) {
             Some(offset) => offset,
-            None if spot.line <= self.above => 0,
+            None if location.line <= self.above => 0,
             None => self.columns.len(),
         }
     }
 
-    /// The offset of a spot of a place, which is at this column where it names none.
-    fn offset(&self, place: &Place, spot: Spot, column: usize) -> Option<usize>
-        ensures offset { result ≡ spot_in self.now place.now spot column }
+    /// The offset of a location of a span, which is at this column where it names none.
+    fn offset(&self, span: &Span, location: Location, column: usize) -> Option<usize>
+        ensures offset { result ≡ location_in self.now span.now location column }
         ensures bound { IfSome result (λ offset. offset ≤ length self.now.columns) }
     {
-        self.spot(place.unit, place.is_past_mark, spot, column)
+        self.location(span.unit, span.is_past_mark, location, column)
     }
 
     /// The characters that a change replaces, if the file has both of its ends.
-    #[tactic(auto, unfolding(crate::specs::DrawnProposals::span_of))]
+    #[tactic(auto, unfolding(crate::specs::DrawnProposals::range_of))]
     pub fn changed(&self, proposal: &Proposal, change: &Change) -> Option<Range<usize>>
-        ensures { result ≡ span_of self.now proposal.now change.now }
+        ensures { result ≡ range_of self.now proposal.now change.now }
     {
-        let start = self.spot(proposal.unit, proposal.is_past_mark, change.start, 1)?;
-        let end = self.spot(proposal.unit, proposal.is_past_mark, change.end, 1)?;
+        let start = self.location(proposal.unit, proposal.is_past_mark, change.start, 1)?;
+        let end = self.location(proposal.unit, proposal.is_past_mark, change.end, 1)?;
         Some(start..end)
     }
 
-    /// The offset of a spot, which is at this column where it names none. Columns count `unit`, and those
+    /// The offset of a location, which is at this column where it names none. Columns count `unit`, and those
     /// that are past the mark leave out a byte order mark.
-    #[tactic(auto, unfolding(crate::specs::FoundPlaces::spot_by))]
-    fn spot(&self, unit: Unit, is_past_mark: bool, spot: Spot, column: usize) -> Option<usize>
-        ensures offset { result ≡ spot_by self.now unit is_past_mark spot column }
+    #[tactic(auto, unfolding(crate::specs::FoundSpans::location_by))]
+    fn location(
+        &self,
+        unit: Unit,
+        is_past_mark: bool,
+        location: Location,
+        column: usize,
+    ) -> Option<usize>
+        ensures offset { result ≡ location_by self.now unit is_past_mark location column }
         ensures bound { IfSome result (λ offset. offset ≤ length self.now.columns) }
     {
-        let mark = self.mark(is_past_mark, spot.line);
-        let column = spot.column.unwrap_or(column).saturating_add(mark);
-        let line = spot.line.saturating_sub(self.above);
+        let mark = self.mark(is_past_mark, location.line);
+        let column = location.column.unwrap_or(column).saturating_add(mark);
+        let line = location.line.saturating_sub(self.above);
         self.columns.offset(self.unit(unit), line, column)
     }
 
@@ -221,9 +227,9 @@ impl Held {
     }
 }
 
-/// Whether a place points at a column that counts characters.
-fn is_sure(place: &Place) -> bool
-    ensures { result ≡ is_sure_in place.now }
+/// Whether a span points at a column that counts characters.
+fn is_sure(span: &Span) -> bool
+    ensures { result ≡ is_sure_in span.now }
 {
-    place.caret.column.is_some() && place.unit == Unit::Char
+    span.caret.column.is_some() && span.unit == Unit::Char
 }

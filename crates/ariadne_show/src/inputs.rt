@@ -19,7 +19,7 @@ pub struct Inputs<'a, R: Files, S> {
     alloc: Global,
     standard: S,
     inputs: &'a [Input<'a>],
-    // The place of the one that is read, and its file, where that is open.
+    // The span of the one that is read, and its file, where that is open.
     at: usize,
     file: Option<R::File>,
     is_line_open: bool,
@@ -54,7 +54,7 @@ impl<'a, R: Files, S: Read + Drop> Inputs<'a, R, S> {
     /// Reads from an input, which is opened where it is not.
     fn read_input(&mut self, input: Input<'a>, buf: &mut [u8]) -> io::Result<usize>
         ensures bound { ReadsAtMost result buf.new }
-        ensures place { self.new.at ≡ self.old.at }
+        ensures span { self.new.at ≡ self.old.at }
         ensures inputs { self.new.inputs ≡ self.old.inputs }
     {
         match input {
@@ -72,7 +72,7 @@ impl<'a, R: Files, S: Read + Drop> Inputs<'a, R, S> {
     /// Reads from the file at a path, which is opened where it is not.
     fn read_file(&mut self, path: &str, buf: &mut [u8]) -> io::Result<usize>
         ensures bound { ReadsAtMost result buf.new }
-        ensures place { self.new.at ≡ self.old.at }
+        ensures span { self.new.at ≡ self.old.at }
         ensures inputs { self.new.inputs ≡ self.old.inputs }
     {
         let mut file = match self.file.take() {

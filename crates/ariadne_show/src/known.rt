@@ -2,7 +2,7 @@
 //! that wait.
 
 ghost use Rattle.std.specs.Prelude.{◌≡◌, true, IfOk, OnOk};
-ghost use Rattle.ariadne_parse.specs.ArrowsTold.{arrow_told};
+ghost use Rattle.ariadne_parse.specs.ArrowsParsed.{arrow_parsed};
 ghost use Rattle.ariadne_show.specs.WaitingLines.{ends_in_head as is_head_last, is_head as is_head_line};
 ghost use Rattle.ariadne_show.specs.Known.{has_waiting_lines, is_note_of, is_waited_for as is_waiting};
 ghost use Rattle.ariadne_show.specs.Known.{AreMarksSettled, IsBlockTaken, IsMoreTaken, IsNamedQuoted, IsNew};
@@ -99,21 +99,21 @@ impl Known {
         }
     }
 
-    /// The diagnostic whose head waits last, with the place that a line names, if it names one and a head
+    /// The diagnostic whose head waits last, with the span that a line names, if it names one and a head
     /// waits so. It then waits no more.
     pub fn placed(&mut self, alloc: Global, text: &str) -> Result<Option<PlacedHead>, AllocError>
         ensures { IfOk result (IsPlacedIn text.now self.old self.new) }
     {
         match arrow_of(text) {
-            Some(arrow) if ends_in_head(self.front.as_slice()) => self.place(alloc, arrow),
+            Some(arrow) if ends_in_head(self.front.as_slice()) => self.span(alloc, arrow),
             _ => Ok(None),
         }
     }
 
-    /// The diagnostic whose head waits last, with the place that an arrow names.
-    fn place(&mut self, alloc: Global, arrow: Arrow<'_>) -> Result<Option<PlacedHead>, AllocError>
+    /// The diagnostic whose head waits last, with the span that an arrow names.
+    fn span(&mut self, alloc: Global, arrow: Arrow<'_>) -> Result<Option<PlacedHead>, AllocError>
         requires { is_head_last self.old.front.items ≡ true }
-        ensures { IfOk result (IsPlacedAt (arrow_told arrow.entry) self.old self.new) }
+        ensures { IfOk result (IsPlacedAt (arrow_parsed arrow.entry) self.old self.new) }
     {
         match self.front.pop() {
             Some(waiting) => placed_head(alloc, arrow, waiting),
@@ -151,13 +151,13 @@ impl Known {
         Ok(())
     }
 
-    /// Gives the places of a diagnostic of which all lines were read the marks that were drawn at the same
-    /// spots, and drops those that repeat others.
-    pub fn settle(&mut self, alloc: Global, told: &mut Diagnostic) -> Result<(), AllocError>
-        ensures { OnOk result (AreMarksSettled told.old told.new self.old self.new) }
+    /// Gives the spans of a diagnostic of which all lines were read the marks that were drawn at the same
+    /// locations, and drops those that repeat others.
+    pub fn settle(&mut self, alloc: Global, parsed: &mut Diagnostic) -> Result<(), AllocError>
+        ensures { OnOk result (AreMarksSettled parsed.old parsed.new self.old self.new) }
     {
-        settle_marks(alloc, &mut self.marked, told.places.as_mut_slice())?;
-        drop_repeats(alloc, &mut told.places)
+        settle_marks(alloc, &mut self.marked, parsed.spans.as_mut_slice())?;
+        drop_repeats(alloc, &mut parsed.spans)
     }
 
     /// The diagnostic in front, which is then no longer held, if there is one that a note is about.
@@ -202,7 +202,7 @@ fn take_row_of<R: Files>(
     Ok(true)
 }
 
-/// Has the next rows quote the file of the place that a row named, if one did. One that can't be read is told.
+/// Has the next rows quote the file of the span that a row named, if one did. One that can't be read is told.
 fn quote_named<R: Files>(
     files: &R,
     alloc: Global,
@@ -213,31 +213,31 @@ fn quote_named<R: Files>(
     ensures quoted { OnOk result (IsNamedQuoted finder.old finder.new block.old block.new) }
     ensures sources { OnOk result (HaveSources finder.new.shelf) }
 {
-    let Some(mut place) = block.take_named() else {
+    let Some(mut span) = block.take_named() else {
         return Ok(());
     };
-    if finder.settle(files, &mut place)? {
-        block.quote(place)
+    if finder.settle(files, &mut span)? {
+        block.quote(span)
     } else {
-        block.tell_place(alloc, &place)
+        block.tell_span(alloc, &span)
     }
 }
 
-/// The diagnostic whose head waited, with the place that an arrow names.
+/// The diagnostic whose head waited, with the span that an arrow names.
 fn placed_head(
     alloc: Global,
     arrow: Arrow<'_>,
     waiting: WaitingLine,
 ) -> Result<Option<PlacedHead>, AllocError>
     requires { is_head_line waiting ≡ true }
-    ensures { IfOk result (IsPlacedNow (arrow_told arrow.entry) waiting) }
+    ensures { IfOk result (IsPlacedNow (arrow_parsed arrow.entry) waiting) }
 {
     let WaitingLine { lines, role } = waiting;
     match role {
-        Role::Head(WaitingHead { mut told, .. }) => {
-            told.places.push(arrow.place(alloc)?)?;
-            Ok(Some(PlacedHead { lines, told }))
+        Role::Head(WaitingHead { mut parsed, .. }) => {
+            parsed.spans.push(arrow.span(alloc)?)?;
+            Ok(Some(PlacedHead { lines, parsed }))
         }
-        Role::Place(_) | Role::Scope => Ok(None),
+        Role::Span(_) | Role::Scope => Ok(None),
     }
 }

@@ -47,4 +47,4 @@ pub use pages::{Page, show_page};
 pub use showing::show;
 pub use streams::Streams;
 pub use sum::Sum;
-pub use words::{Asked, read_words};
+pub use words::{Request, read_words};

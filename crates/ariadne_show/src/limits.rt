@@ -27,14 +27,14 @@ pub struct DrawnCount {
 
 impl DrawnCount {
     /// Whether a diagnostic is drawn, and counts it as drawn, or as one more.
-    pub fn take(&mut self, told: &Diagnostic, limits: Limits) -> bool
-        ensures drawn { result ≡ is_drawn limits told.now self.old }
-        ensures counted { self.new ≡ drawn_after limits told.now self.old }
+    pub fn take(&mut self, parsed: &Diagnostic, limits: Limits) -> bool
+        ensures drawn { result ≡ is_drawn limits parsed.now self.old }
+        ensures counted { self.new ≡ drawn_after limits parsed.now self.old }
     {
-        if !reaches(limits.least, told.severity) {
+        if !reaches(limits.least, parsed.severity) {
             return false;
         }
-        if told.is_sum {
+        if parsed.is_sum {
             return true;
         }
         if limits.most.is_some_and(|most| self.drawn >= most) {

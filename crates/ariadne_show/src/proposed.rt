@@ -2,14 +2,14 @@
 
 ghost use Rattle.std.specs.Prelude.{◌≡◌, ◌++◌, option_map, string_bytes, IfOk, OnOk};
 ghost use Rattle.std.specs.Option.{option_to_list};
-ghost use Rattle.ariadne_show.specs.FoundPlaces.{files_of};
+ghost use Rattle.ariadne_show.specs.FoundSpans.{files_of};
 ghost use Rattle.ariadne_show.specs.DrawnProposals.{are_shown as can_be_shown, page_at, way_text as text_of_way};
 ghost use Rattle.ariadne_show.specs.DrawnProposals.{AreEdits, AreRows, AreSketched, AreWaysDrawn, IsSketched};
 ghost use Rattle.ariadne_show.specs.DrawnProposals.{line_columns as columns_of_line, number_columns as columns_of_numbers};
 ghost use Rattle.ariadne_show.specs.DrawnProposals.{view_in as view_of, IsWayDrawn};
 ghost use Rattle.ariadne_show.specs.ReadFiles.{sources_in};
 
-use crate::held::Held;
+use crate::held::HeldFile;
 use crate::shelf::Shelf;
 use crate::wrapping::{aside_columns, fits, wrapped};
 use ariadne::{CharSet, IndexType};
@@ -94,7 +94,7 @@ fn sketch_of(
 }
 
 /// The file at a path and its source, if that was read.
-fn page_of<'a>(shelf: &'a Shelf, path: &str) -> Option<(&'a Held, &'a SafeSource)>
+fn page_of<'a>(shelf: &'a Shelf, path: &str) -> Option<(&'a HeldFile, &'a SafeSource)>
     ensures { option_map (λ page. (page.0.now, page.1.now)) result
         ≡ page_at (files_of shelf.now) (sources_in shelf.now) path.now }
 {
@@ -108,7 +108,7 @@ fn page_of<'a>(shelf: &'a Shelf, path: &str) -> Option<(&'a Held, &'a SafeSource
 /// The texts of the ways of a proposal; nothing where it has no way, or some way can't be shown.
 fn texts_of(
     alloc: Global,
-    held: &Held,
+    held: &HeldFile,
     source: &SafeSource,
     proposal: &Proposal,
     room: Room,
@@ -131,7 +131,7 @@ fn texts_of(
 /// The text of a way, if the file has its changes and their rows can be shown.
 fn text_of(
     alloc: Global,
-    held: &Held,
+    held: &HeldFile,
     source: &SafeSource,
     proposal: &Proposal,
     changes: &[Change],
@@ -155,7 +155,7 @@ fn text_of(
 /// The edits that changes are, if the file has all of them.
 fn edits_of(
     alloc: Global,
-    held: &Held,
+    held: &HeldFile,
     proposal: &Proposal,
     changes: &[Change],
 ) -> Result<Option<Vec<Edit>>, AllocError>

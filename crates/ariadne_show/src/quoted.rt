@@ -8,7 +8,7 @@ ghost use Rattle.ariadne_show.specs.Quoted.{is_near as is_near_to, is_of, lines_
 ghost use Rattle.ariadne_show.specs.Quoted.{quoted_line as line_quoted, quoted_lines};
 ghost use Rattle.ariadne_show.specs.ReadFiles.{IsNotQuoted, IsQuotedBehind};
 
-use crate::held::Held;
+use crate::held::HeldFile;
 use ariadne_parse::{Columns, QuotedLine};
 use ariadne_safe::{LineEnds, SafeSource, SafeSources};
 use std::alloc::{AllocError, Global};
@@ -34,7 +34,7 @@ pub fn hold_quoted(
     sources: &mut SafeSources,
     path: &str,
     quoted: &[QuotedLine],
-) -> Result<Option<Held>, AllocError>
+) -> Result<Option<HeldFile>, AllocError>
     ensures { IfOk result (λ held. MatchOption held
         ((sources_of sources.new ≡ sources_of sources.old) × IsNotQuoted path.now quoted.now)
         (IsQuotedBehind (sources_of sources.old) (sources_of sources.new) path.now quoted.now)) }
@@ -51,7 +51,7 @@ pub fn hold_quoted(
         .with_name(path)?
         .with_display_line_offset(lines.above);
     let columns = Columns::new(alloc, text.as_str())?;
-    Ok(Some(Held {
+    Ok(Some(HeldFile {
         number: sources.add(source)?,
         columns,
         is_utf8: true,

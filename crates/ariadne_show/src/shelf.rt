@@ -7,7 +7,7 @@ ghost use Rattle.ariadne_safe.specs.Sources.{sources_of};
 ghost use Rattle.ariadne_search.specs.Search.{candidates as all_candidates};
 ghost use Rattle.ariadne_blocks.specs.Files.{file_of};
 ghost use Rattle.ariadne_show.specs.Finding.{file_at};
-ghost use Rattle.ariadne_show.specs.FoundPlaces.{files_of, held_at, read_in};
+ghost use Rattle.ariadne_show.specs.FoundSpans.{files_of, held_at, read_in};
 ghost use Rattle.ariadne_show.specs.LinesAndColumns.{caret_in_line as caret_in_its_line};
 ghost use Rattle.ariadne_show.specs.ReadFiles.{is_read as is_read_in, sources_in, AreQuoted, HaveSearched};
 ghost use Rattle.ariadne_show.specs.ReadFiles.{HaveSources, HaveTried, AreOpened, IsHeldBehind};
@@ -15,10 +15,10 @@ ghost use Rattle.ariadne_show.specs.ReadFiles.{AreFilesSettled, AreQuotedIn, IsF
 ghost use Rattle.ariadne_show.specs.ReadFiles.{IsQuotedNow, IsSettledNow, IsTried};
 
 use crate::bounds::Bounds;
-use crate::held::{FileText, Held};
+use crate::held::{FileText, HeldFile};
 use crate::quoted::hold_quoted;
 use ariadne_blocks::QuotedFile;
-use ariadne_parse::{Columns, Place, Proposal, QuotedLine, Unit};
+use ariadne_parse::{Columns, Proposal, QuotedLine, Span, Unit};
 use ariadne_safe::{LineEnds, SafeSource, SafeSources};
 use ariadne_search::{Search, candidates};
 use std::alloc::{AllocError, Global};
@@ -29,8 +29,8 @@ use std::rt::Files;
 #[derive(Drop)]
 pub struct Shelf {
     sources: SafeSources,
-    files: HashMap<String, Option<Held>>,
-    quoted: HashMap<String, Held>,
+    files: HashMap<String, Option<HeldFile>>,
+    quoted: HashMap<String, HeldFile>,
     bounds: Bounds,
     alloc: Global,
 }
@@ -58,7 +58,7 @@ impl Shelf {
     }
 
     /// The file at a path, if it could be read, or else what is quoted of it.
-    pub fn get(&self, path: &str) -> Option<&Held>
+    pub fn get(&self, path: &str) -> Option<&HeldFile>
         ensures { option_copied result ≡ held_at (files_of self.now) path.now }
     {
         match self.files.get(path) {
@@ -79,14 +79,14 @@ impl Shelf {
         })
     }
 
-    /// The character of its line, from 0, that the tool points at in a place, if that names a column and its
+    /// The character of its line, from 0, that the tool points at in a span, if that names a column and its
     /// file is held.
-    pub fn caret_in_line(&self, place: &Place) -> Option<usize>
-        ensures { result ≡ caret_in_its_line (files_of self.now) place.now }
+    pub fn caret_in_line(&self, span: &Span) -> Option<usize>
+        ensures { result ≡ caret_in_its_line (files_of self.now) span.now }
     {
-        place.caret.column?;
-        let held = self.get(place.file.as_str())?;
-        let (_, column) = held.columns.spot_at(Unit::Char, held.caret(place)?);
+        span.caret.column?;
+        let held = self.get(span.file.as_str())?;
+        let (_, column) = held.columns.location_at(Unit::Char, held.caret(span)?);
         Some(column - 1)
     }
 
@@ -137,7 +137,7 @@ impl Shelf {
         Ok(None)
     }
 
-    /// Has the files of places read, and gives the places the paths at which they were found. A file that
+    /// Has the files of spans read, and gives the spans the paths at which they were found. A file that
     /// can't be read is held as it is quoted, until this is called again.
     ///
     /// On `Err` there was no memory.
@@ -145,31 +145,31 @@ impl Shelf {
         &mut self,
         files: &R,
         search: &Search<'_>,
-        places: &mut [Place],
+        spans: &mut [Span],
         quoted: &[QuotedLine],
     ) -> Result<(), AllocError>
         requires { HaveSources self.old }
         ensures { OnOk result
-            (AreOpened search.now quoted.now places.old places.new self.old self.new) }
+            (AreOpened search.now quoted.now spans.old spans.new self.old self.new) }
     {
-        for place in places.iter_mut() {
-            self.settle(files, search, place)?;
+        for span in spans.iter_mut() {
+            self.settle(files, search, span)?;
         }
-        self.quote(places, quoted)
+        self.quote(spans, quoted)
     }
 
-    /// Has the file of a place read, and gives the place the path at which it was found.
+    /// Has the file of a span read, and gives the span the path at which it was found.
     pub fn settle<R: Files>(
         &mut self,
         files: &R,
         search: &Search<'_>,
-        place: &mut Place,
+        span: &mut Span,
     ) -> Result<(), AllocError>
         requires { HaveSources self.old }
-        ensures { OnOk result (IsSettledNow search.now place.old place.new self.old self.new) }
+        ensures { OnOk result (IsSettledNow search.now span.old span.new self.old self.new) }
     {
-        if let Some(path) = self.find(files, search, place.file.as_str())? {
-            place.file = path;
+        if let Some(path) = self.find(files, search, span.file.as_str())? {
+            span.file = path;
         }
         Ok(())
     }
@@ -210,14 +210,14 @@ impl Shelf {
         Ok(())
     }
 
-    /// Holds what is quoted of the files of places that were not read, and nothing else that is quoted.
-    fn quote(&mut self, places: &[Place], quoted: &[QuotedLine]) -> Result<(), AllocError>
+    /// Holds what is quoted of the files of spans that were not read, and nothing else that is quoted.
+    fn quote(&mut self, spans: &[Span], quoted: &[QuotedLine]) -> Result<(), AllocError>
         requires { HaveSources self.old }
-        ensures { OnOk result (AreQuoted quoted.now places.now self.old self.new) }
+        ensures { OnOk result (AreQuoted quoted.now spans.now self.old self.new) }
     {
         self.quoted.clear();
-        for place in places {
-            self.quote_file(place.file.as_str(), quoted)?;
+        for span in spans {
+            self.quote_file(span.file.as_str(), quoted)?;
         }
         Ok(())
     }
@@ -246,7 +246,7 @@ fn try_file<R: Files>(
     bounds: &Bounds,
     sources: &mut SafeSources,
     path: &str,
-) -> Result<Option<Held>, AllocError>
+) -> Result<Option<HeldFile>, AllocError>
     ensures { IfOk result (λ held.
         IsTried (sources_of sources.old) (sources_of sources.new) path.now held) }
 {
@@ -262,7 +262,7 @@ fn hold(
     sources: &mut SafeSources,
     path: &str,
     bytes: &[u8],
-) -> Result<Held, AllocError>
+) -> Result<HeldFile, AllocError>
     ensures { IfOk result (λ held.
         IsHeldBehind (sources_of sources.old) (sources_of sources.new) path.now bytes.now held) }
 {
@@ -270,7 +270,7 @@ fn hold(
     let columns = Columns::new(alloc, file.text.as_str())?;
     let source = SafeSource::new(alloc, file.text.as_str(), LineEnds::LineFeeds)?;
     let number = sources.add(source.with_name(path)?)?;
-    Ok(Held {
+    Ok(HeldFile {
         number,
         columns,
         is_utf8: file.is_utf8,

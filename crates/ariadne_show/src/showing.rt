@@ -26,7 +26,7 @@ const VERSION: &str = "0.6.0";
 
 /// Shows what `input` tells, to its end.
 ///
-/// A line that is no diagnostic is written in its place. In place of one that is, its diagnostics are
+/// A line that is no diagnostic is written in its place. In span of one that is, its diagnostics are
 /// drawn over their files, each of which is read once. The lines of text that belong to a diagnostic, as
 /// its tool's own snippet and its notes, are drawn with it. At the end their sum is written, if there
 /// were any, on a line of its own.
@@ -50,17 +50,17 @@ pub fn show<R: Files, I: BufRead, W: Write, F: Write>(
     let mut run = Run::new(files, alloc, options)?;
     task.show_start(streams)?;
     match task.show_input(&mut run, input, streams)? {
-        Ending::AtEnd => {
+        InputEnd::AtEnd => {
             task.show_end(&run.shown, streams)?;
             Ok(run.shown.sum)
         }
-        Ending::Unread(fault) => Err(fault),
+        InputEnd::Unread(fault) => Err(fault),
     }
 }
 
 /// Where the lines of an input end.
 #[derive(Drop)]
-enum Ending {
+enum InputEnd {
     /// With it.
     AtEnd,
     /// In front of one that can't be read, for this reason.
@@ -88,7 +88,7 @@ impl<R: Files> Task<'_, R> {
         run: &mut Run,
         input: &mut I,
         streams: &mut Streams<W, F>,
-    ) -> Result<Ending, Fault>
+    ) -> Result<InputEnd, Fault>
         requires { HaveSources run.old.known.finder.shelf }
         ensures { IfOk result (IsInputShown self.now.options.now (I.remaining input.old)
             (at_of run.old streams.old) (at_of run.new streams.new)) }
@@ -107,7 +107,7 @@ impl<R: Files> Task<'_, R> {
         held: &mut Option<Document>,
         input: &mut I,
         streams: &mut Streams<W, F>,
-    ) -> Result<Ending, Fault>
+    ) -> Result<InputEnd, Fault>
         requires { HaveSources run.old.known.finder.shelf }
         ensures shown { IfOk result (HaveLinesEnded self.now.options.now (I.remaining input.old)
             (holding_of held.old (at_of run.old streams.old))
@@ -119,11 +119,11 @@ impl<R: Files> Task<'_, R> {
             line.clear();
             match read_line(input, &mut line) {
                 Ok(true) => self.show_next(run, held, line.as_slice(), streams)?,
-                Ok(false) => return Ok(Ending::AtEnd),
-                Err(fault) => return Ok(Ending::Unread(fault)),
+                Ok(false) => return Ok(InputEnd::AtEnd),
+                Err(fault) => return Ok(InputEnd::Unread(fault)),
             }
         }
-        Ok(Ending::Unread(Fault::Unread))
+        Ok(InputEnd::Unread(Fault::Unread))
     }
 
     /// Writes what stands behind all: how many more there are, and the sum.

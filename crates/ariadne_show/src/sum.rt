@@ -21,13 +21,13 @@ pub struct Sum {
 
 impl Sum {
     /// Counts a diagnostic more, unless it sums up others.
-    pub fn count(&mut self, told: &Diagnostic)
-        ensures { self.new ≡ counted told.now self.old }
+    pub fn count(&mut self, parsed: &Diagnostic)
+        ensures { self.new ≡ counted parsed.now self.old }
     {
-        if told.is_sum {
+        if parsed.is_sum {
             return;
         }
-        match told.severity {
+        match parsed.severity {
             Severity::Error => self.errors = self.errors.saturating_add(1),
             Severity::Warning => self.warnings = self.warnings.saturating_add(1),
             Severity::Note => self.notes = self.notes.saturating_add(1),

@@ -56,31 +56,31 @@ impl<R: Files> Task<'_, R> {
         pass_lines(self.alloc, self.options, lines, &mut run.shown, streams)
     }
 
-    /// Counts a diagnostic whose places were settled, and writes it, if that is asked for, over its files and
+    /// Counts a diagnostic whose spans were settled, and writes it, if that is asked for, over its files and
     /// those that it proposes to change.
     pub(crate) fn show_settled<W: Write, F: Write>(
         &self,
         run: &mut Run,
-        mut told: Diagnostic,
+        mut parsed: Diagnostic,
         streams: &mut Streams<W, F>,
     ) -> Result<(), Fault>
         requires { HaveSources run.old.known.finder.shelf }
-        ensures shown { OnOk result (IsSettledShown self.now.options.now told
+        ensures shown { OnOk result (IsSettledShown self.now.options.now parsed
             (at_of run.old streams.old) (at_of run.new streams.new)) }
         ensures sources { OnOk result (HaveSources run.new.known.finder.shelf) }
     {
-        run.known.finder.find_changed(self.files, &mut told)?;
-        self.show_one(run, &told, streams)
+        run.known.finder.find_changed(self.files, &mut parsed)?;
+        self.show_one(run, &parsed, streams)
     }
 
     /// Counts a diagnostic whose files were read, and writes it, if that is asked for.
     fn show_one<W: Write, F: Write>(
         &self,
         run: &mut Run,
-        told: &Diagnostic,
+        parsed: &Diagnostic,
         streams: &mut Streams<W, F>,
     ) -> Result<(), Fault>
-        ensures shown { OnOk result (IsShownOnce self.now.options.now run.old.known.finder.shelf told.now
+        ensures shown { OnOk result (IsShownOnce self.now.options.now run.old.known.finder.shelf parsed.now
             (out_of run.old.shown streams.old) (out_of run.new.shown streams.new)) }
         ensures known { run.new.known ≡ run.old.known }
     {
@@ -89,7 +89,7 @@ impl<R: Files> Task<'_, R> {
             self.alloc,
             self.options,
             &known.finder.shelf,
-            told,
+            parsed,
             shown,
             streams,
         )

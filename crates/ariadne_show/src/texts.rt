@@ -2,52 +2,52 @@
 
 ghost use Rattle.std.specs.Prelude.{◌≡◌, ◌∷◌, [], ◌++◌, string_bytes, IfOk, OnOk};
 ghost use Rattle.std.specs.Option.{option_to_list};
-ghost use Rattle.ariadne_show.specs.FoundPlaces.{files_of};
-ghost use Rattle.ariadne_show.specs.TextDiagnostics.{lines_of, missing_main, said_places, said_texts};
+ghost use Rattle.ariadne_show.specs.FoundSpans.{files_of};
+ghost use Rattle.ariadne_show.specs.TextDiagnostics.{lines_of, missing_main, said_spans, said_texts};
 ghost use Rattle.ariadne_show.specs.TextDiagnostics.{missing_text as text_of_missing};
 
-use crate::asides::spot_text;
+use crate::asides::location_text;
 use crate::shelf::Shelf;
-use ariadne_parse::{Diagnostic, Place};
+use ariadne_parse::{Diagnostic, Span};
 use std::alloc::{AllocError, Global};
 
-/// What the places of a diagnostic say, its notes and its helps, and why its own place can't be drawn.
+/// What the spans of a diagnostic say, its notes and its helps, and why its own span can't be drawn.
 pub fn line_texts(
     alloc: Global,
     shelf: &Shelf,
-    told: &Diagnostic,
+    parsed: &Diagnostic,
 ) -> Result<Vec<String>, AllocError>
     ensures { IfOk result (λ texts.
-        said_texts texts.items ≡ lines_of (files_of shelf.now) told.now) }
+        said_texts texts.items ≡ lines_of (files_of shelf.now) parsed.now) }
 {
     let mut texts = Vec::new(alloc);
-    push_places(alloc, &mut texts, told.places.as_slice())?;
-    push_copies(&mut texts, told.notes.as_slice())?;
-    push_copies(&mut texts, told.helps.as_slice())?;
-    push_missing(alloc, &mut texts, shelf, told)?;
+    push_spans(alloc, &mut texts, parsed.spans.as_slice())?;
+    push_copies(&mut texts, parsed.notes.as_slice())?;
+    push_copies(&mut texts, parsed.helps.as_slice())?;
+    push_missing(alloc, &mut texts, shelf, parsed)?;
     Ok(texts)
 }
 
-/// Adds what places say.
-fn push_places(alloc: Global, texts: &mut Vec<String>, places: &[Place]) -> Result<(), AllocError>
+/// Adds what spans say.
+fn push_spans(alloc: Global, texts: &mut Vec<String>, spans: &[Span]) -> Result<(), AllocError>
     ensures { OnOk result (said_texts texts.new.items
-        ≡ said_texts texts.old.items ++ said_places places.now) }
+        ≡ said_texts texts.old.items ++ said_spans spans.now) }
 {
-    for place in places {
-        push_place(alloc, texts, place)?;
+    for span in spans {
+        push_span(alloc, texts, span)?;
     }
     Ok(())
 }
 
-/// Adds what a place says, if it says something.
-fn push_place(alloc: Global, texts: &mut Vec<String>, place: &Place) -> Result<(), AllocError>
+/// Adds what a span says, if it says something.
+fn push_span(alloc: Global, texts: &mut Vec<String>, span: &Span) -> Result<(), AllocError>
     ensures { OnOk result (said_texts texts.new.items
-        ≡ said_texts texts.old.items ++ said_places (place.now ∷ [])) }
+        ≡ said_texts texts.old.items ++ said_spans (span.now ∷ [])) }
 {
-    if place.text.is_empty() {
+    if span.text.is_empty() {
         return Ok(());
     }
-    texts.push(spot_text(alloc, place, place.text.as_str())?)?;
+    texts.push(location_text(alloc, span, span.text.as_str())?)?;
     Ok(())
 }
 
@@ -62,32 +62,32 @@ fn push_copies(texts: &mut Vec<String>, all: &[String]) -> Result<(), AllocError
     Ok(())
 }
 
-/// Adds why the own place of a diagnostic can't be drawn, if it has one.
+/// Adds why the own span of a diagnostic can't be drawn, if it has one.
 fn push_missing(
     alloc: Global,
     texts: &mut Vec<String>,
     shelf: &Shelf,
-    told: &Diagnostic,
+    parsed: &Diagnostic,
 ) -> Result<(), AllocError>
     ensures { OnOk result (said_texts texts.new.items ≡ said_texts texts.old.items
-        ++ option_to_list (missing_main (files_of shelf.now) told.now)) }
+        ++ option_to_list (missing_main (files_of shelf.now) parsed.now)) }
 {
-    match told.main_place() {
-        Some(place) => {
-            texts.push(missing_text(alloc, shelf, place)?)?;
+    match parsed.main_span() {
+        Some(span) => {
+            texts.push(missing_text(alloc, shelf, span)?)?;
             Ok(())
         }
         None => Ok(()),
     }
 }
 
-/// Why a place can't be drawn.
-fn missing_text(alloc: Global, shelf: &Shelf, place: &Place) -> Result<String, AllocError>
+/// Why a span can't be drawn.
+fn missing_text(alloc: Global, shelf: &Shelf, span: &Span) -> Result<String, AllocError>
     ensures { IfOk result (λ text. string_bytes text
-        ≡ text_of_missing (files_of shelf.now) place.now) }
+        ≡ text_of_missing (files_of shelf.now) span.now) }
 {
-    let file = place.file.as_str();
-    let line = place.start.line;
+    let file = span.file.as_str();
+    let line = span.start.line;
     match shelf.get(file) {
         Some(_) => format!(in alloc; "not drawn, since {file} has no line {line}"),
         None => format!(in alloc; "not drawn, since {file} can't be read"),

@@ -42,26 +42,26 @@ impl<R: Files> Task<'_, R> {
             (at_of run.old streams.old) (at_of run.new streams.new)) }
         ensures sources { OnOk result (HaveSources run.new.known.finder.shelf) }
     {
-        for told in all {
-            self.show_whole(run, told, streams)?;
+        for parsed in all {
+            self.show_whole(run, parsed, streams)?;
         }
         Ok(())
     }
 
-    /// Writes a diagnostic that is whole over its files, without places that repeat others, and counts it.
+    /// Writes a diagnostic that is whole over its files, without spans that repeat others, and counts it.
     fn show_whole<W: Write, F: Write>(
         &self,
         run: &mut Run,
-        mut told: Diagnostic,
+        mut parsed: Diagnostic,
         streams: &mut Streams<W, F>,
     ) -> Result<(), Fault>
         requires { HaveSources run.old.known.finder.shelf }
-        ensures shown { OnOk result (IsWholeShown self.now.options.now told
+        ensures shown { OnOk result (IsWholeShown self.now.options.now parsed
             (at_of run.old streams.old) (at_of run.new streams.new)) }
         ensures sources { OnOk result (HaveSources run.new.known.finder.shelf) }
     {
-        run.known.finder.open(self.files, &mut told)?;
-        drop_repeats(self.alloc, &mut told.places)?;
-        self.show_settled(run, told, streams)
+        run.known.finder.open(self.files, &mut parsed)?;
+        drop_repeats(self.alloc, &mut parsed.spans)?;
+        self.show_settled(run, parsed, streams)
     }
 }

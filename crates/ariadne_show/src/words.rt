@@ -43,7 +43,7 @@ pub const FAILS: &[&str] = &["error", "warning", "never"];
 
 /// What the words ask for.
 #[derive(Drop)]
-pub enum Asked<'a> {
+pub enum Request<'a> {
     /// To show what inputs tell, one after the other.
     Show {
         options: Options<'a>,
@@ -57,21 +57,21 @@ pub enum Asked<'a> {
 ///
 /// Options and names of inputs stand in any order. Of an option the last one counts. On `Err` they
 /// ask for nothing that the program does, or there was no memory.
-pub fn read_words<'a>(alloc: Global, words: &'a [String]) -> Result<Asked<'a>, Fault>
+pub fn read_words<'a>(alloc: Global, words: &'a [String]) -> Result<Request<'a>, Fault>
     ensures asked { IfOk result (IsAskedBy (map string_bytes words.now)) }
     ensures refused { IfErr result (IsRefusedFor (map string_bytes words.now)) }
 {
     match parse(alloc, words) {
         Ok(matches) => match width_of(&matches) {
-            Some(width) => Ok(Asked::Show {
+            Some(width) => Ok(Request::Show {
                 options: options_of(&matches, width),
                 inputs: inputs_of(alloc, &matches)?,
             }),
             None => Err(Fault::no_width(alloc, width_text(&matches))?),
         },
         Err(error) => match error.kind() {
-            ErrorKind::DisplayHelp => Ok(Asked::Page(Page::Help)),
-            ErrorKind::DisplayVersion => Ok(Asked::Page(Page::Version)),
+            ErrorKind::DisplayHelp => Ok(Request::Page(Page::Help)),
+            ErrorKind::DisplayVersion => Ok(Request::Page(Page::Version)),
             ErrorKind::OutOfMemory => Err(Fault::Memory(AllocError)),
             _ => Err(told_by_signs(alloc, words, error)?),
         },

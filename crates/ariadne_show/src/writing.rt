@@ -1,15 +1,15 @@
 //! What is written of a diagnostic and of a line that passes, in the form that is asked for.
 
 ghost use Rattle.std.specs.Prelude.{◌≡◌, IfOk, OnOk, string_bytes};
-ghost use Rattle.ariadne_outputs.specs.Located.{locations_of};
-ghost use Rattle.ariadne_show.specs.FoundPlaces.{files_of};
+ghost use Rattle.ariadne_outputs.specs.Located.{located_spans_of};
+ghost use Rattle.ariadne_show.specs.FoundSpans.{files_of};
 ghost use Rattle.ariadne_show.specs.WaitingLines.{bytes_in, bytes_of, passing_of};
 ghost use Rattle.ariadne_show.specs.Limits.{limits_of as limits_in};
 ghost use Rattle.ariadne_show.specs.ReadFiles.{sources_in};
 ghost use Rattle.ariadne_show.specs.Writing.{behind_line as is_behind_line, behind_text as is_behind_text};
 ghost use Rattle.ariadne_show.specs.Writing.{comma as comma_behind, gap as gap_behind, is_document as is_a_document};
 ghost use Rattle.ariadne_show.specs.Writing.{is_picture as is_a_picture};
-ghost use Rattle.ariadne_show.specs.Writing.{locations, nothing_shown, out_of, passing_bytes, shown_line, text_in};
+ghost use Rattle.ariadne_show.specs.Writing.{nothing_shown, out_of, passing_bytes, shown_line, spans_of_output, text_in};
 ghost use Rattle.ariadne_show.specs.Writing.{unit_of as unit_in_form, HasPassed, HavePassed, IsShownOnce, IsWritten};
 
 use crate::drawing::draw;
@@ -17,7 +17,7 @@ use crate::fault::Fault;
 use crate::front::WaitingLine;
 use crate::limits::{DrawnCount, Limits};
 use crate::lines::is_ended;
-use crate::located::located_places;
+use crate::located::located_spans;
 use crate::options::{Options, Output};
 use crate::sending::send;
 use crate::shelf::Shelf;
@@ -80,20 +80,20 @@ pub fn show_one<W: Write, F: Write>(
     alloc: Global,
     options: &Options<'_>,
     shelf: &Shelf,
-    told: &Diagnostic,
+    parsed: &Diagnostic,
     shown: &mut Shown,
     streams: &mut Streams<W, F>,
 ) -> Result<(), Fault>
-    ensures { OnOk result (IsShownOnce options.now shelf.now told.now
+    ensures { OnOk result (IsShownOnce options.now shelf.now parsed.now
         (out_of shown.old streams.old) (out_of shown.new streams.new)) }
 {
-    shown.sum.count(told);
+    shown.sum.count(parsed);
     shown.is_told_last = true;
-    if !shown.drawn.take(told, limits_of(options)) {
+    if !shown.drawn.take(parsed, limits_of(options)) {
         return Ok(());
     }
     let out = &mut streams.out;
-    shown.written = write_diagnostic(alloc, shelf, told, options, shown.written, out)?;
+    shown.written = write_diagnostic(alloc, shelf, parsed, options, shown.written, out)?;
     Ok(())
 }
 
@@ -114,24 +114,27 @@ fn limits_of(options: &Options<'_>) -> Limits
 fn write_diagnostic<W: Write>(
     alloc: Global,
     shelf: &Shelf,
-    told: &Diagnostic,
+    parsed: &Diagnostic,
     options: &Options<'_>,
     written: Written,
     out: &mut W,
 ) -> Result<Written, Fault>
     ensures { IfOk result (λ last. IsWritten options.now (files_of shelf.now) (sources_in shelf.now)
-        told.now written last (W.contents out.old) (W.contents out.new)) }
+        parsed.now written last (W.contents out.old) (W.contents out.new)) }
 {
     if is_picture(options.output) {
         send(out, gap(written, options.style.is_compact))?;
-        draw(alloc, shelf, told, options.style, out)?;
+        draw(alloc, shelf, parsed, options.style, out)?;
         return Ok(Written::Picture);
     }
-    if told.is_sum {
+    if parsed.is_sum {
         return Ok(written);
     }
     send(out, comma(written))?;
-    send(out, text_of(alloc, shelf, told, options.output)?.as_bytes())?;
+    send(
+        out,
+        text_of(alloc, shelf, parsed, options.output)?.as_bytes(),
+    )?;
     Ok(behind_text(options.output))
 }
 
@@ -159,30 +162,30 @@ fn behind_text(output: Output) -> Written
 fn text_of(
     alloc: Global,
     shelf: &Shelf,
-    told: &Diagnostic,
+    parsed: &Diagnostic,
     output: Output,
 ) -> Result<String, AllocError>
     ensures { IfOk result (λ text. string_bytes text
-        ≡ text_in output told.now (locations (files_of shelf.now) output told.now)) }
+        ≡ text_in output parsed.now (spans_of_output (files_of shelf.now) output parsed.now)) }
 {
-    let places = located_places(alloc, shelf, told, unit_of(output))?;
-    text_at(alloc, told, output, places.as_slice())
+    let spans = located_spans(alloc, shelf, parsed, unit_of(output))?;
+    text_at(alloc, parsed, output, spans.as_slice())
 }
 
-/// The text of a diagnostic whose places stand there.
+/// The text of a diagnostic whose spans stand there.
 fn text_at(
     alloc: Global,
-    told: &Diagnostic,
+    parsed: &Diagnostic,
     output: Output,
-    places: &[Located<'_>],
+    spans: &[Located<'_>],
 ) -> Result<String, AllocError>
     ensures { IfOk result (λ text.
-        string_bytes text ≡ text_in output told.now (locations_of places.now)) }
+        string_bytes text ≡ text_in output parsed.now (located_spans_of spans.now)) }
 {
     match output {
-        Output::Github => github_text(alloc, told, places),
-        Output::Sarif => sarif_result(alloc, told, places),
-        Output::Picture | Output::Short => short_text(alloc, told, places),
+        Output::Github => github_text(alloc, parsed, spans),
+        Output::Sarif => sarif_result(alloc, parsed, spans),
+        Output::Picture | Output::Short => short_text(alloc, parsed, spans),
     }
 }
 

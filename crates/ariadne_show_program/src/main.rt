@@ -3,7 +3,7 @@
 
 use ariadne::RetryInterrupted;
 use ariadne_show::{
-    Asked, Environment, Fault, Input, Inputs, Options, Status, Streams, read_words, show,
+    Environment, Fault, Input, Inputs, Options, Request, Status, Streams, read_words, show,
     show_page, tell_fault,
 };
 use std::env;
@@ -48,8 +48,8 @@ fn show_inputs(
 fn run(rt: &HostRuntime) -> Result<Status, Fault> {
     let words = given_words(rt)?;
     match read_words(rt.alloc(), words.as_slice())? {
-        Asked::Show { options, inputs } => show_inputs(rt, options, inputs.as_slice()),
-        Asked::Page(page) => {
+        Request::Show { options, inputs } => show_inputs(rt, options, inputs.as_slice()),
+        Request::Page(page) => {
             let mut out = RetryInterrupted::new(rt.stdout());
             Ok(show_page(page, &mut out, &mut rt.stderr()))
         }

@@ -1,7 +1,7 @@
 use Rattle.std.proofs.Common.{arith, refl}
 use Rattle.std.proofs.lemmas.Str.{IsCharBoundary-start}
 use Rattle.ariadne_parse.specs.Fronts.{context_behind, context_in}
-use Rattle.ariadne_parse.specs.FrontsTold.{front_told}
+use Rattle.ariadne_parse.specs.FrontsParsed.{front_parsed}
 use Rattle.ariadne_parse.proofs.Texts.{read_later, read_there}
 use Rattle.ariadne_parse.proofs.fronts.context.Goals as goal
 
@@ -13,7 +13,7 @@ loop-turn-init c = record { is_boundary = IsCharBoundary-start c.args.line.now c
 pub returns-in-Some : goal.returns-in-Some
 returns-in-Some c =
     read_there context_behind c.args.line.now c.in_ok-file.file.now c.in_ok-file.text.now c.loop-turn.from c.in_ok-file.next c.loop-turn.turn
-    (context_in c.args.line.now) (front_told c.in-Some.front) c.in_ok-file.ensures (omega arith) c.loop-turn.invariant.same c.in-Some.ensures
+    (context_in c.args.line.now) (front_parsed c.in-Some.front) c.in_ok-file.ensures (omega arith) c.loop-turn.invariant.same c.in-Some.ensures
 
 -- it tells nothing there
 pub loop-turn-preserved : goal.loop-turn-preserved

@@ -1,8 +1,8 @@
 use Rattle.std.proofs.Common.{rules, ◌∙◌, refl, arith, sym}
 use Rattle.std.specs.Str.{IsUtf8}
 use Rattle.ariadne_parse.specs.Heads.{is_among}
-use Rattle.ariadne_parse.specs.ParsedLines.{own_range_of}
-use Rattle.ariadne_parse.specs.ToldLines.{head_told}
+use Rattle.ariadne_parse.specs.ParsedDiagnostics.{own_range_of}
+use Rattle.ariadne_parse.specs.ParsedLines.{head_parsed}
 use Rattle.ariadne_parse.proofs.Ranges.{range_found, range_none, range_passed, range_past}
 use Rattle.ariadne_parse.proofs.heads.own_range.Goals as goal
 
@@ -16,14 +16,14 @@ loop-turn-init c =
 pub returns-in_err-start : goal.returns-in_err-start
 returns-in_err-start c =
     c.from_residual.ensures
-    ∙ range_none (is_among c.args.it.now.start) c.loop-turn.turn c.loop-turn.rest.now (own_range_of (head_told c.args.it.now))
+    ∙ range_none (is_among c.args.it.now.start) c.loop-turn.turn c.loop-turn.rest.now (own_range_of (head_parsed c.args.it.now))
     c.in_err-start.ensures c.loop-turn.invariant.same
 
--- this one has the place
+-- this one has the span
 pub returns-then-is_among : goal.returns-then-is_among
 returns-then-is_among c =
     range_found (is_among c.args.it.now.start) c.loop-turn.turn c.loop-turn.rest.now c.in_ok-start.behind.now c.in_ok-start.start
-    c.in_ok-start.end (own_range_of (head_told c.args.it.now)) (omega arith) c.in_ok-start.ensures c.loop-turn.invariant.same
+    c.in_ok-start.end (own_range_of (head_parsed c.args.it.now)) (omega arith) c.in_ok-start.ensures c.loop-turn.invariant.same
     (sym c.if-is_among.ensures)
 
 -- it has not
@@ -33,12 +33,12 @@ loop-turn-preserved c =
     record {
       is_text = text;
       same = range_passed (is_among c.args.it.now.start) c.loop-turn.turn c.loop-turn.rest.now c.in_ok-start.behind.now c.in_ok-start.start
-          c.in_ok-start.end (own_range_of (head_told c.args.it.now)) (omega arith) c.in_ok-start.ensures c.loop-turn.invariant.same
+          c.in_ok-start.end (own_range_of (head_parsed c.args.it.now)) (omega arith) c.in_ok-start.ensures c.loop-turn.invariant.same
           (sym c.if-is_among.ensures);
     }
 
 -- none has
 pub returns : goal.returns
 returns c =
-    range_past (is_among c.args.it.now.start) c.loop-turn.turn c.loop-turn.rest.now (own_range_of (head_told c.args.it.now))
+    range_past (is_among c.args.it.now.start) c.loop-turn.turn c.loop-turn.rest.now (own_range_of (head_parsed c.args.it.now))
     (omega arith) c.loop-turn.invariant.same

@@ -1,5 +1,5 @@
 use Rattle.std.proofs.Common.{◌∙◌, sym}
-use Rattle.ariadne_parse.specs.ParsedLines.{is_label}
+use Rattle.ariadne_parse.specs.ParsedDiagnostics.{is_label}
 use Rattle.ariadne_parse.proofs.Values.{all_view}
 use Rattle.ariadne_parse.proofs.report.are_labels.Goals as goal
 

@@ -5,4 +5,4 @@ use Rattle.ariadne_parse.proofs.rustc.is_said.Goals as goal
 
 -- spans say it where their values do
 pub returns : goal.returns
-returns c = c.any_says_note.ensures ∙ sym (any_view says_note c.args.spans.now)
+returns c = c.any_says_note.ensures ∙ sym (any_view says_note c.args.span_values.now)

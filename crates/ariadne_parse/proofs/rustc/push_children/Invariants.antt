@@ -6,5 +6,5 @@ use Rattle.ariadne_parse.proofs.rustc.push_children.Given as goal
 -- what is said so far, with the children that are still to come, is all
 abbrev pub invariant-loop-child : goal.invariant-loop-child
 invariant-loop-child l =
-    with_children (as_said l.told) (items_view (drop l.child-index l.children))
-    ≡ with_children (as_said l.initial.told) (items_view l.children)
+    with_children (as_said l.parsed) (items_view (drop l.child-index l.children))
+    ≡ with_children (as_said l.initial.parsed) (items_view l.children)

@@ -4,7 +4,7 @@ use Rattle.ariadne_parse.specs.Suggested.{parts_behind}
 use Rattle.ariadne_parse.proofs.suggested.suggestion.Given as goal
 
 -- what is said so far and what the spans say that are left are all
-abbrev pub invariant-loop-span : goal.invariant-loop-span
-invariant-loop-span l =
-    string_bytes l.said ++ parts_behind l.first (items_view (drop l.span-index l.spans))
-    ≡ parts_behind None (items_view l.fn.spans)
+abbrev pub invariant-loop-span_value : goal.invariant-loop-span_value
+invariant-loop-span_value l =
+    string_bytes l.said ++ parts_behind l.first (items_view (drop l.span_value-index l.span_values))
+    ≡ parts_behind None (items_view l.fn.span_values)

@@ -1,4 +1,4 @@
-use Rattle.ariadne_show.specs.FoundPlaces.{files_of}
+use Rattle.ariadne_show.specs.FoundSpans.{files_of}
 use Rattle.ariadne_show.specs.ReadFiles.{sources_in}
 use Rattle.ariadne_show.proofs.Chains.{told_if_in_lines, told_if_in_one}
 use Rattle.ariadne_show.proofs.drawing.draw_titled.Goals as goal

@@ -12,7 +12,7 @@ loop-it-init c = record { report = no_labels (made_of c.args.builder); sources =
 pub loop-it-preserved : goal.loop-it-preserved
 loop-it-preserved c =
     let i = c.loop-it.it-index in
-    let all = c.args.places.now in
+    let all = c.args.spans.now in
     let it = c.it-item.result in
     let more : take (i + 1) all ≡ take i all ++ it ∷ [] =
     take_more all i it c.loop-it-test.true ∙ ap (λ x. take i all ++ x ∷ []) (sym c.it-item.is) in record {

@@ -7,14 +7,14 @@ use Rattle.ariadne_show.proofs.known.quote_named.Goals as goal
 pub returns-then-branch-clause-quoted : goal.returns-then-branch-clause-quoted
 returns-then-branch-clause-quoted g c =
     on_ok_weaker c.quote.result
-    (λ quoted. quotes c.take_named.new.self c.in-Some.place c.settle.new.place c.in-Some.ensures
+    (λ quoted. quotes c.take_named.new.self c.in-Some.span c.settle.new.span c.in-Some.ensures
     c.in_ok-settle.ensures.settled (sym c.in_ok-settle.ensures.held ∙ c.if-branch.true) quoted)
     c.quote.ensures
 
 -- it can't be read, and is told
 pub returns-else-branch-clause-quoted : goal.returns-else-branch-clause-quoted
 returns-else-branch-clause-quoted g c =
-    on_ok_weaker c.tell_place.result
-    (λ told. unread c.take_named.new.self c.in-Some.place c.settle.new.place c.in-Some.ensures
-    c.in_ok-settle.ensures.settled (sym c.in_ok-settle.ensures.held ∙ c.if-branch.false) told)
-    c.tell_place.ensures.view
+    on_ok_weaker c.tell_span.result
+    (λ parsed. unread c.take_named.new.self c.in-Some.span c.settle.new.span c.in-Some.ensures
+    c.in_ok-settle.ensures.settled (sym c.in_ok-settle.ensures.held ∙ c.if-branch.false) parsed)
+    c.tell_span.ensures.view

@@ -1,5 +1,5 @@
 use Rattle.std.specs.Prelude.{None, Some}
-use Rattle.ariadne_show.specs.FoundPlaces.{files_of}
+use Rattle.ariadne_show.specs.FoundSpans.{files_of}
 use Rattle.ariadne_show.specs.ReadFiles.{sources_in}
 use Rattle.ariadne_show.proofs.Proposing.{file_unread, sketched_by}
 use Rattle.ariadne_show.proofs.proposed.sketch_of.Goals as goal

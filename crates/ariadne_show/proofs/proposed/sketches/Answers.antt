@@ -1,6 +1,6 @@
 use Rattle.std.proofs.Common.{◌≡◌, ◌∙◌, ◌+◌, ◌++◌, ◌∷◌, [], ap, subst, sym, take}
 use Rattle.std.proofs.lemmas.List.{take_more}
-use Rattle.ariadne_show.specs.FoundPlaces.{files_of}
+use Rattle.ariadne_show.specs.FoundSpans.{files_of}
 use Rattle.ariadne_show.specs.DrawnProposals.{none_sketched, AreSketched}
 use Rattle.ariadne_show.specs.ReadFiles.{sources_in}
 use Rattle.ariadne_show.proofs.Proposing.{sketched_more}

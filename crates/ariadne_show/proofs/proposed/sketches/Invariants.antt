@@ -1,5 +1,5 @@
 use Rattle.std.specs.Prelude.{take}
-use Rattle.ariadne_show.specs.FoundPlaces.{files_of}
+use Rattle.ariadne_show.specs.FoundSpans.{files_of}
 use Rattle.ariadne_show.specs.DrawnProposals.{AreSketched}
 use Rattle.ariadne_show.specs.ReadFiles.{sources_in}
 use Rattle.ariadne_show.proofs.proposed.sketches.Given as goal

@@ -1,7 +1,7 @@
 use Rattle.std.proofs.Common.{ap, refl, subst}
 use Rattle.ariadne_show.specs.RunOutput.{at_of, IsInputShown}
 use Rattle.ariadne_show.specs.Writing.{out_of}
-use Rattle.ariadne_show.specs.declared.showing.Ending.{Ending}
+use Rattle.ariadne_show.specs.declared.showing.InputEnd.{InputEnd}
 use Rattle.ariadne_show.specs.declared.writing.Shown.{Shown}
 use Rattle.ariadne_show.proofs.showing.show.Goals as goal
 
@@ -17,7 +17,7 @@ returns-in-AtEnd g c =
       is_new = c.in_ok-run.ensures.known;
       nothing = ap (λ (s : Shown). out_of s c.show_start.new.streams) c.in_ok-run.ensures.shown;
       finished = finished;
-      lines = subst (λ (e : Ending). IsInputShown c.args.options.now (g.I.Read.remaining c.args.input.now) first finished e)
+      lines = subst (λ (e : InputEnd). IsInputShown c.args.options.now (g.I.Read.remaining c.args.input.now) first finished e)
           c.in-AtEnd.is c.in_ok-show_input.ensures;
       end = c.in_ok-show_end-in-AtEnd.ensures;
       summed = refl;

@@ -14,7 +14,7 @@ returns-then-is_picture g c =
 -- it was written as a text
 pub returns : goal.returns
 returns g c =
-    as_text (g.W.Write.contents c.send-2.new.out) (sym c.is_picture.ensures ∙ c.if-is_picture.false) c.if-told.false
+    as_text (g.W.Write.contents c.send-2.new.out) (sym c.is_picture.ensures ∙ c.if-is_picture.false) c.if-parsed.false
     (subst (λ (bytes : List ℕ). Appends (g.W.Write.contents c.args.out.now) (g.W.Write.contents c.send-2.new.out) bytes)
     c.comma.ensures c.in_ok-send-2.ensures.ok)
     (subst (λ (bytes : List ℕ). Appends (g.W.Write.contents c.send-2.new.out) (g.W.Write.contents c.send-3.new.out) bytes)

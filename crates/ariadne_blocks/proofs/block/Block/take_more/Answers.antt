@@ -1,7 +1,7 @@
 use Rattle.std.proofs.Common.{◌∙◌, ◌++◌, ◌∷◌, [], ap, refl, subst, sym, ℕ}
 use Rattle.std.specs.Prelude.{map}
 use Rattle.ariadne_snippets.specs.Snippets.{IsUnread}
-use Rattle.ariadne_blocks.specs.Blocks.{bytes_of, held_of, lines_behind, view_of, with_more, Held}
+use Rattle.ariadne_blocks.specs.Blocks.{bytes_of, held_of, lines_behind, view_of, with_more, HeldLine}
 use Rattle.ariadne_blocks.specs.declared.goes_on.GoesOn.TheVariants.{Cut}
 use Rattle.ariadne_blocks.proofs.Lists.{pushed}
 use Rattle.ariadne_blocks.proofs.Viewed.{same_view}
@@ -14,9 +14,9 @@ returns-clause-held c = λ yes.
     record {
       may = sym c.may_go_on.ensures ∙ c.if-not-may_go_on.false;
       awaits = subst (λ (line : ℕ). IsUnread line old.caret c.new-2.result) c.first_line.ensures c.new-2.ensures;
-      told = refl;
+      parsed = refl;
       behind = pushed bytes_of old.more.items c.push.new.self.items c.in_ok-more.more c.in_ok-push.ensures.items
-          ∙ ap (λ (h : Held). lines_behind old ++ h.bytes ∷ []) c.in_ok-more.ensures;
+          ∙ ap (λ (h : HeldLine). lines_behind old ++ h.bytes ∷ []) c.in_ok-more.ensures;
       view = same_view _ (with_more c.args.line.bytes.now c.args.line.text.now (view_of old)) refl refl refl refl
           (pushed held_of old.more.items c.push.new.self.items c.in_ok-more.more c.in_ok-push.ensures.items
           ∙ ap (λ h. map held_of old.more.items ++ h ∷ []) c.in_ok-more.ensures)

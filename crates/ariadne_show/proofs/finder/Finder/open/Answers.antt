@@ -2,7 +2,7 @@ use Rattle.std.proofs.Common.{◌∙◌, List, ap, arith, refl, subst, sym}
 use Rattle.std.proofs.lemmas.List.{with_items_is}
 use Rattle.std.specs.Prelude.{option_map}
 use Rattle.ariadne_search.specs.Search.{texts_of}
-use Rattle.ariadne_parse.specs.declared.diagnostic.Place.{Place}
+use Rattle.ariadne_parse.specs.declared.diagnostic.Span.{Span}
 use Rattle.ariadne_parse.specs.declared.diagnostic.QuotedLine.{QuotedLine}
 use Rattle.ariadne_show.specs.ReadFiles.{AreOpened}
 use Rattle.ariadne_show.proofs.finder.Finder.open.Goals as goal
@@ -18,13 +18,13 @@ returns-clause-opened g c = record {
     outer = rw c.as_deref.ensures.value at c.search-search.ensures.outer;
     entered = ap texts_of c.search-search.ensures.entered ∙ c.as_slice.ensures;
   };
-  places = subst (λ (after : List Place). AreOpened c.search-search.result c.args.told.now.quoted.items c.args.told.now.places.items
+  spans = subst (λ (after : List Span). AreOpened c.search-search.result c.args.parsed.now.quoted.items c.args.parsed.now.spans.items
       after c.args.self.now.shelf c.open.new.self)
-      (sym (with_items_is c.args.told.now.places c.open.new.places (omega arith)))
-      (subst (λ (lines : List QuotedLine). AreOpened c.search-search.result lines c.args.told.now.places.items
-      c.open.new.places c.args.self.now.shelf c.open.new.self) c.as_slice-2.ensures.value
-      (subst (λ (before : List Place). AreOpened c.search-search.result c.as_slice-2.result.now before
-      c.open.new.places c.args.self.now.shelf c.open.new.self) c.as_mut_slice-places.ensures.value c.in_ok-open.ensures));
+      (sym (with_items_is c.args.parsed.now.spans c.open.new.spans (omega arith)))
+      (subst (λ (lines : List QuotedLine). AreOpened c.search-search.result lines c.args.parsed.now.spans.items
+      c.open.new.spans c.args.self.now.shelf c.open.new.self) c.as_slice-2.ensures.value
+      (subst (λ (before : List Span). AreOpened c.search-search.result c.as_slice-2.result.now before
+      c.open.new.spans c.args.self.now.shelf c.open.new.self) c.as_mut_slice-spans.ensures.value c.in_ok-open.ensures));
   others = refl;
   finder = refl;
 }

@@ -14,6 +14,6 @@ returns-clause-settled g c = record {
     outer = c.search-search.ensures.outer;
     entered = ap texts_of c.search-search.ensures.entered ∙ c.as_slice.ensures;
   };
-  place_settled = c.in_ok-settle.ensures;
+  span_settled = c.in_ok-settle.ensures;
   finder = refl;
 }

@@ -12,7 +12,7 @@ use Rattle.ariadne_show.proofs.front.WaitingLine.add_row.Goals as goal
 
 -- what isn't a head is none
 no-head : (given : Role) → ((head : WaitingHead) → given ≡ role.Head head → ⊥) → is_head_role given ≡ false
-no-head (role.Place place) none = refl
+no-head (role.Span span) none = refl
 no-head (role.Head head) none = absurd (none head refl)
 no-head role.Scope none = refl
 
@@ -28,14 +28,14 @@ pub returns : goal.returns
 returns c = elim c.match-self.branch [
   | in-Head+in_ok-push+in_ok-push_str w ↦ record {
     shorter = w.in-Head.head;
-    longer = record w.in-Head.head { told = record w.in-Head.head.told { message = w.push_str.new.self } };
+    longer = record w.in-Head.head { parsed = record w.in-Head.head.parsed { message = w.push_str.new.self } };
     was = w.in-Head.is;
     is = ap (λ line. line.role) w.self-is;
     message = w.in_ok-push_str.ensures.bytes
         ∙ ap (λ text. text ++ c.args.row.now)
         (w.in_ok-push.ensures.bytes
-        ∙ ap (λ fed. string_bytes w.in-Head.head.told.message ++ fed) (w.in_ok-push.ensures.ascii (lit< tt)))
-        ∙ append_assoc (string_bytes w.in-Head.head.told.message) (10 ∷ []) c.args.row.now;
+        ∙ ap (λ fed. string_bytes w.in-Head.head.parsed.message ++ fed) (w.in_ok-push.ensures.ascii (lit< tt)))
+        ∙ append_assoc (string_bytes w.in-Head.head.parsed.message) (10 ∷ []) c.args.row.now;
     others = refl;
     lines = with-line c.args.self.now.lines.items c.push-2.new.self.items c.in_ok-bytes_of_line.field-0 c.args.line.now
         (c.in_ok-push-2.ensures.items ∙ ap (λ line. line.lines.items ++ c.in_ok-bytes_of_line.field-0 ∷ []) w.self-is)

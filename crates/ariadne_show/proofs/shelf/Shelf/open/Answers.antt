@@ -1,24 +1,24 @@
 use Rattle.std.proofs.Common.{arith, refl, subst, sym}
 use Rattle.std.proofs.lemmas.List.{take_all}
-use Rattle.ariadne_parse.specs.declared.diagnostic.Place.{Place}
+use Rattle.ariadne_parse.specs.declared.diagnostic.Span.{Span}
 use Rattle.ariadne_show.specs.ReadFiles.{IsSettledNow}
 use Rattle.ariadne_show.proofs.Reading.{all_opened_if, opened_more}
 use Rattle.ariadne_show.proofs.shelf.Shelf.open.Goals as goal
 
--- one place more in each turn
-pub loop-place-preserved : goal.loop-place-preserved
-loop-place-preserved g c =
-    opened_more c.args.search.now c.args.places.now c.loop-place.places _ c.loop-place.place-index c.place-item.result
-    c.settle.new.place c.args.self.now c.loop-place.self c.settle.new.self (omega (arith, c.loop-place-test.true, c.loop-place.auto.places)) c.place-item.is refl
-    c.loop-place.invariant
-    (subst (λ (x : Place). IsSettledNow c.args.search.now x c.settle.new.place c.loop-place.self c.settle.new.self) (sym c.place-item.is)
+-- one span more in each turn
+pub loop-span-preserved : goal.loop-span-preserved
+loop-span-preserved g c =
+    opened_more c.args.search.now c.args.spans.now c.loop-span.spans _ c.loop-span.span-index c.span-item.result
+    c.settle.new.span c.args.self.now c.loop-span.self c.settle.new.self (omega (arith, c.loop-span-test.true, c.loop-span.auto.spans)) c.span-item.is refl
+    c.loop-span.invariant
+    (subst (λ (x : Span). IsSettledNow c.args.search.now x c.settle.new.span c.loop-span.self c.settle.new.self) (sym c.span-item.is)
     c.in_ok-settle.ensures)
 
 -- all of them
 pub returns : goal.returns
 returns g c =
-    all_opened_if c.quote.result c.args.search.now c.args.quoted.now c.args.places.now c.loop-place.places c.loop-place.place-index
-    c.args.self.now c.loop-place.self c.quote.new.self
-    (take_all c.loop-place.place-index c.args.places.now c.loop-place-test.false)
-    (take_all c.loop-place.place-index c.loop-place.places
-    (omega (arith, c.loop-place-test.false, c.loop-place.auto.places))) c.loop-place.invariant c.quote.ensures
+    all_opened_if c.quote.result c.args.search.now c.args.quoted.now c.args.spans.now c.loop-span.spans c.loop-span.span-index
+    c.args.self.now c.loop-span.self c.quote.new.self
+    (take_all c.loop-span.span-index c.args.spans.now c.loop-span-test.false)
+    (take_all c.loop-span.span-index c.loop-span.spans
+    (omega (arith, c.loop-span-test.false, c.loop-span.auto.spans))) c.loop-span.invariant c.quote.ensures

@@ -3,7 +3,7 @@ use Rattle.ariadne_blocks.specs.Blocks.{IsNoted}
 use Rattle.ariadne_show.specs.RunOutput.{at_of}
 use Rattle.ariadne_show.proofs.task.Task.add_note.Goals as goal
 
--- it has the places of the lines that waited, and the note
+-- it has the spans of the lines that waited, and the note
 pub returns-clause-added : goal.returns-clause-added
 returns-clause-added g c = record {
   given = at_of c.give_front.new.run c.give_front.new.streams;

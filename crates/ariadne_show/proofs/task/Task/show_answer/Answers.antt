@@ -27,7 +27,7 @@ returns-in-Diagnostics-clause-shown g c =
 -- it is a head
 pub returns-in-Head-clause-shown : goal.returns-in-Head-clause-shown
 returns-in-Head-clause-shown g c =
-    head_if c.show_head.result c.args.self.now.options.now c.args.line _ _ c.args.answer c.in-Head.told c.in-Head.is
+    head_if c.show_head.result c.args.self.now.options.now c.args.line _ _ c.args.answer c.in-Head.parsed c.in-Head.is
     c.show_head.ensures.shown
 
 -- it is a note

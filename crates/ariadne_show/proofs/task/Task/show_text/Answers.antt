@@ -6,7 +6,7 @@ use Rattle.ariadne_show.specs.declared.front.PlacedHead.{PlacedHead}
 use Rattle.ariadne_show.proofs.Answered.{gone_on, named_if, other_if, waited}
 use Rattle.ariadne_show.proofs.task.Task.show_text.Goals as goal
 
--- it names the place of a head that waits
+-- it names the span of a head that waits
 pub returns-in-Some-clause-shown : goal.returns-in-Some-clause-shown
 returns-in-Some-clause-shown g c =
     named_if c.show_placed.result c.args.self.now.options.now c.args.line c.args.run.now.known c.placed.new.self
