@@ -6,23 +6,23 @@ use Rattle.std.specs.Io.KnownBytes.{Appends}
 use Rattle.std.specs.Str.{bytes_eq}
 use Rattle.ariadne_commands.specs.declared.fault.Status.{Status}
 use Rattle.ariadne_commands.specs.declared.fault.Status.TheVariants as status
-use Rattle.ariadne_commands.specs.declared.pages.Page.{Page}
-use Rattle.ariadne_commands.specs.declared.pages.Page.TheVariants.{Help, Version}
+use Rattle.ariadne_commands.specs.declared.pages.HelpPage.{HelpPage}
+use Rattle.ariadne_commands.specs.declared.pages.HelpPage.TheVariants.{Help, Version}
 use Rattle.ariadne_commands.specs.declared.pages.TheConstants.{HELP, VERSION}
 
 -- what a page says
-unfoldable pub page_text : Page → List ℕ
+unfoldable pub page_text : HelpPage → List ℕ
 page_text Help = HELP.now
 page_text Version = VERSION.now
 
 -- a page has a word
-abbrev pub page_named : List ℕ → Option Page
+abbrev pub page_named : List ℕ → Option HelpPage
 page_named word =
     if bytes_eq word (codes "--help") then Some Help else
     (if bytes_eq word (codes "--version") then Some Version else None)
 
 -- which asks for it where it is the only word
-abbrev pub page_asked : List (List ℕ) → Option Page
+abbrev pub page_asked : List (List ℕ) → Option HelpPage
 page_asked [] = None
 page_asked (word ∷ []) = page_named word
 page_asked (word ∷ other ∷ words) = None

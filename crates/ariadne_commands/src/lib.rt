@@ -36,6 +36,6 @@ pub use drawing::draw;
 pub use fault::{BRACKETS_USAGE, DRAW_USAGE, Fault, Status, tell_fault};
 pub use linting::lint;
 pub use offence::{Offence, first_offence, texts_have_one_first_offence};
-pub use pages::Page;
+pub use pages::HelpPage;
 pub use watched::Watched;
 pub use words::without_colors;

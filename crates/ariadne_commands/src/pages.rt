@@ -80,41 +80,41 @@ port of the Rust crate ariadne 0.6.0
 
 /// A text that the program has ready.
 #[derive(Clone, Copy)]
-pub enum Page {
+pub enum HelpPage {
     /// `--help`
     Help,
     /// `--version`
     Version,
 }
 
-impl Page {
+impl HelpPage {
     /// What is written of it.
     pub fn text(self) -> &'static str
         ensures { result.now ≡ page_text self }
     {
         match self {
-            Page::Help => HELP,
-            Page::Version => VERSION,
+            HelpPage::Help => HELP,
+            HelpPage::Version => VERSION,
         }
     }
 }
 
 /// The page that the words ask for: its own word, where that is the only one.
-pub fn asked_page(words: &[String]) -> Option<Page>
+pub fn asked_page(words: &[String]) -> Option<HelpPage>
     ensures { result ≡ page_asked (map string_bytes words.now) }
 {
     let [word] = words else {
         return None;
     };
     match word.as_str() {
-        "--help" => Some(Page::Help),
-        "--version" => Some(Page::Version),
+        "--help" => Some(HelpPage::Help),
+        "--version" => Some(HelpPage::Version),
         _ => None,
     }
 }
 
 /// Writes a page to `out`, tells why it could not be written whole, and returns how the program ends.
-pub fn show<W: Write, F: Write>(page: Page, out: &mut W, faults: &mut F) -> Status
+pub fn show<W: Write, F: Write>(page: HelpPage, out: &mut W, faults: &mut F) -> Status
     ensures { IsShown (page_text page) (W.contents out.old) (W.contents out.new) result }
 {
     match send(out, page.text().as_bytes()) {

@@ -18,7 +18,7 @@ pub mod LocationNumbers
 pub mod OneOrder
 pub mod PartColumns
 pub mod PartSights
-pub mod PartsOfLabels
+pub mod LabelRuns
 pub mod Passing
 pub mod PlaceColumns
 pub mod Ranking

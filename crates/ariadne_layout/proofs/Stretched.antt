@@ -16,9 +16,9 @@ use Rattle.ariadne_picture.specs.Cells.{paint_of}
 use Rattle.ariadne_picture.specs.declared.cell.Paint.TheVariants.{Unimportant}
 use Rattle.ariadne_layout.specs.declared.choice.Choice.{Choice}
 use Rattle.ariadne_layout.specs.declared.stretches.Stretch.{Stretch}
-use Rattle.ariadne_layout.specs.declared.parts.Part.{Part}
+use Rattle.ariadne_layout.specs.declared.label_runs.LabelRun.{LabelRun}
 use Rattle.ariadne_layout.specs.Choices.{IsChoice, infos_of, inline_infos, shown_position}
-use Rattle.ariadne_layout.specs.Parts.{seen_at}
+use Rattle.ariadne_layout.specs.LabelRuns.{seen_at}
 use Rattle.ariadne_layout.specs.Tables.{shown_at, position_of, position_paint}
 
 -- ---- stretches, one after another
@@ -89,21 +89,21 @@ shows_choice labels offset place to choice stretches more s h choice_is inside e
     let same : (offset + place) + (k - place) ≡ offset + k = omega arith in
     position ∙ position-shown labels (offset + place) (to - place) choice (k - place) choice_is (omega arith) ∙ ap (shown_position labels) same))
 
--- ---- stretches of parts
+-- ---- stretches of runs
 
--- the stretch of a part
-abbrev pub stretch_of : Part → Stretch
+-- the stretch of a run
+abbrev pub stretch_of : LabelRun → Stretch
 stretch_of p = record { end = p.end; position = option_map (λ (a : LabelInfo). a.position) (option_copied p.label) }
 
--- they show the labels of the parts
-pub stretches_shown : (parts : List Part) (k : ℕ) → shown_at (map stretch_of parts) k ≡ option_map (λ (a : LabelInfo). a.position) (seen_at parts k)
+-- they show the labels of the runs
+pub stretches_shown : (runs : List LabelRun) (k : ℕ) → shown_at (map stretch_of runs) k ≡ option_map (λ (a : LabelInfo). a.position) (seen_at runs k)
 unfolding shown_at seen_at
 stretches_shown [] k = refl
-stretches_shown (p ∷ parts) k =
-    elim (nat_lt k p.end) as (λ v. cond v (option_map (λ (a : LabelInfo). a.position) (option_copied p.label)) (shown_at (map stretch_of parts) k)
-    ≡ option_map (λ (a : LabelInfo). a.position) (cond v (option_copied p.label) (seen_at parts k))) [
+stretches_shown (p ∷ runs) k =
+    elim (nat_lt k p.end) as (λ v. cond v (option_map (λ (a : LabelInfo). a.position) (option_copied p.label)) (shown_at (map stretch_of runs) k)
+    ≡ option_map (λ (a : LabelInfo). a.position) (cond v (option_copied p.label) (seen_at runs k))) [
       | true ↦ refl
-      | false ↦ stretches_shown parts k
+      | false ↦ stretches_shown runs k
     ]
 
 -- ---- underlines

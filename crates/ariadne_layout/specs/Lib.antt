@@ -5,7 +5,7 @@ pub mod Ends
 pub mod Falling
 pub mod Knots
 pub mod LabelLists
-pub mod Parts
+pub mod LabelRuns
 pub mod SnippetLabels
 pub mod Snippets
 pub mod Tables

@@ -6,13 +6,13 @@ ghost use Rattle.std.specs.List.{All};
 ghost use Rattle.std.specs.List.Sorted.{IsStrictlyIncreasing};
 ghost use Rattle.ariadne_layout.specs.Candidates.{AreThere, infos_among};
 ghost use Rattle.ariadne_layout.specs.Choices.{inline_infos};
-ghost use Rattle.ariadne_layout.specs.Parts.{ShowParts};
+ghost use Rattle.ariadne_layout.specs.LabelRuns.{ShowLabelRuns};
 ghost use Rattle.ariadne_layout.specs.Tables.{AreAllStretches, ArePaints, AreStretches};
 ghost use Rattle.ariadne_layout.specs.Tables.{AreUnderlines, OthersHoldNone};
 
 use crate::candidates::Candidates;
+use crate::label_runs::{LabelRun, find_label_runs};
 use crate::layout::LineLayout;
-use crate::parts::{Part, find_parts};
 use ariadne_picture::label_info::{LabelInfo, LineLabel};
 use ariadne_picture::switches::Switches;
 use std::alloc::AllocError;
@@ -140,23 +140,23 @@ fn fill(
 {
     list.clear();
     if labels.count() > FEW {
-        let parts = find_parts(*list.allocator(), labels, offset, len)?;
-        push_parts(list, &parts)
+        let runs = find_label_runs(*list.allocator(), labels, offset, len)?;
+        push_label_runs(list, &runs)
     } else {
         push_chosen(list, labels, offset, len)
     }
 }
 
-/// Appends a stretch for each part. On `Err` there was no memory for them.
-fn push_parts(list: &mut Vec<Stretch>, parts: &[Part<'_>]) -> Result<(), AllocError>
+/// Appends a stretch for each run. On `Err` there was no memory for them.
+fn push_label_runs(list: &mut Vec<Stretch>, runs: &[LabelRun<'_>]) -> Result<(), AllocError>
     requires { list.old.items ≡ [] }
-    ensures { OnOk result (ShowParts list.new.items parts.now) }
+    ensures { OnOk result (ShowLabelRuns list.new.items runs.now) }
 {
-    list.reserve_exact(parts.len())?;
-    for part in parts {
+    list.reserve_exact(runs.len())?;
+    for run in runs {
         list.push(Stretch {
-            end: part.end,
-            position: part.label.map(|label| label.position),
+            end: run.end,
+            position: run.label.map(|label| label.position),
         })?;
     }
     Ok(())

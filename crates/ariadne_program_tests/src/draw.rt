@@ -4,7 +4,7 @@ ghost use Rattle.std.specs.Prelude.{◌<◌};
 
 use crate::comparing::assert_same_of;
 use crate::outcome::Outcome;
-use ariadne_commands::{Page, Status, Watched, draw};
+use ariadne_commands::{HelpPage, Status, Watched, draw};
 use ariadne_testing::{Given, Taker, refuse, texts};
 use std::io::ErrorKind;
 use std::process::Abort;
@@ -165,6 +165,6 @@ fn a_writer_that_fails_at_each_call_holds_a_beginning(rt: HostRuntime) {
     assert_same_of(&rt, "the picture", &PICTURE.len(), &223);
     assert_cuts(&rt, &WORDS, PICTURE, true);
     // (The long page takes as many calls as its square, byte by byte.)
-    assert_cuts(&rt, &["--help"], Page::Help.text(), false);
-    assert_cuts(&rt, &["--version"], Page::Version.text(), true)
+    assert_cuts(&rt, &["--help"], HelpPage::Help.text(), false);
+    assert_cuts(&rt, &["--version"], HelpPage::Version.text(), true)
 }

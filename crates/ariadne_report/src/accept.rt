@@ -47,12 +47,12 @@ pub struct LeftOut<E> {
 
 /// The labels of a report: accepted and skipped.
 #[derive(Drop)]
-pub struct Judged<E> {
+pub struct Acceptance<E> {
     pub infos: Vec<LabelInfo>,
     pub left_out: Vec<LeftOut<E>>,
 }
 
-impl<E: Drop> Judged<E> {
+impl<E: Drop> Acceptance<E> {
     /// Skips the label at a position. On `Err` memory ran out.
     fn leave_out(&mut self, label: usize, reason: Reason<E>) -> Result<(), AllocError>
         ensures infos { OnOk result (self.new.infos ≡ self.old.infos) }
@@ -70,7 +70,7 @@ impl<E: Drop> Judged<E> {
 pub fn accept<S: Span, C: Cache<S::SourceId>>(
     report: &ReportData<'_, S>,
     cache: &mut C,
-) -> Result<Judged<C::Error>, AllocError>
+) -> Result<Acceptance<C::Error>, AllocError>
     requires { C.can_fetch cache.old }
     ensures again { C.can_fetch cache.new }
     ensures naming { (q : S.SourceId) → C.names cache.new q ≡ C.names cache.old q }
@@ -91,7 +91,7 @@ pub fn accept<S: Span, C: Cache<S::SourceId>>(
 {
     let infos = Vec::with_capacity(report.alloc, report.labels.len())?;
     let left_out = Vec::new(report.alloc);
-    let mut judged = Judged { infos, left_out };
+    let mut judged = Acceptance { infos, left_out };
     let mut position = 0;
     while position < report.labels.len() {
         position = judge_fetched(report, cache, &mut judged, position)?;
@@ -107,7 +107,7 @@ pub fn accept<S: Span, C: Cache<S::SourceId>>(
 fn judge_fetched<S: Span, C: Cache<S::SourceId>>(
     report: &ReportData<'_, S>,
     cache: &mut C,
-    judged: &mut Judged<C::Error>,
+    judged: &mut Acceptance<C::Error>,
     first: usize,
 ) -> Result<usize, AllocError>
     requires can { C.can_fetch cache.old }
@@ -154,7 +154,7 @@ fn judge_fetched<S: Span, C: Cache<S::SourceId>>(
 fn judge_alike<S: Span, C: Cache<S::SourceId>>(
     report: &ReportData<'_, S>,
     source: &Source<C::Storage>,
-    judged: &mut Judged<C::Error>,
+    judged: &mut Acceptance<C::Error>,
     first: usize,
 ) -> Result<usize, AllocError>
     requires first { first < length report.now.labels }
@@ -195,7 +195,7 @@ fn judge_held<S: Span, C: Cache<S::SourceId>>(
     source: &Source<C::Storage>,
     size: usize,
     known: &mut Known,
-    judged: &mut Judged<C::Error>,
+    judged: &mut Acceptance<C::Error>,
     position: usize,
 ) -> Result<(), AllocError>
     requires position { position < length report.now.labels }

@@ -5,12 +5,12 @@ use Rattle.ariadne_show.specs.Streams.{IsCut}
 use Rattle.ariadne_show.specs.declared.fault.Status.{Status}
 use Rattle.ariadne_show.specs.declared.fault.Status.TheVariants.{Shown, WithErrors, WrongWords}
 use Rattle.ariadne_show.specs.declared.fault.Status.TheVariants.{Failed, BrokenPipe}
-use Rattle.ariadne_show.specs.declared.pages.Page.{Page}
-use Rattle.ariadne_show.specs.declared.pages.Page.TheVariants.{Help, Version}
+use Rattle.ariadne_show.specs.declared.pages.HelpPage.{HelpPage}
+use Rattle.ariadne_show.specs.declared.pages.HelpPage.TheVariants.{Help, Version}
 use Rattle.ariadne_show.specs.declared.pages.TheConstants.{HELP, VERSION}
 
 -- what a page says
-unfoldable pub page_text : Page → List ℕ
+unfoldable pub page_text : HelpPage → List ℕ
 page_text Help = HELP.now
 page_text Version = VERSION.now
 

@@ -29,7 +29,7 @@ use Rattle.ariadne_show.specs.declared.options.Output.TheVariants as output
 use Rattle.ariadne_show.specs.declared.options.Style.{Style}
 use Rattle.ariadne_show.specs.declared.options.Width.{Width}
 use Rattle.ariadne_show.specs.declared.options.Width.TheVariants as width
-use Rattle.ariadne_show.specs.declared.pages.Page.TheVariants.{Help, Version}
+use Rattle.ariadne_show.specs.declared.pages.HelpPage.TheVariants.{Help, Version}
 use Rattle.ariadne_show.specs.declared.words.Request.{Request}
 use Rattle.ariadne_show.specs.declared.words.Request.TheVariants.{Show, Page}
 

@@ -43,7 +43,7 @@ pub use fault::{Fault, Status, tell_fault};
 pub use inputs::Inputs;
 pub use limits::{DrawnCount, Limits};
 pub use options::{Colors, FailOn, Input, Options, Output, Style, Width};
-pub use pages::{Page, show_page};
+pub use pages::{HelpPage, show_page};
 pub use showing::show;
 pub use streams::Streams;
 pub use sum::Sum;

@@ -108,27 +108,27 @@ ariadne-show 0.6.0
 
 /// A text that the program has ready.
 #[derive(Clone, Copy, PartialEq, Eq)]
-pub enum Page {
+pub enum HelpPage {
     /// `--help`
     Help,
     /// `--version`
     Version,
 }
 
-impl Page {
+impl HelpPage {
     /// What is written of it.
     pub fn text(self) -> &'static str
         ensures { result.now ≡ page_text self }
     {
         match self {
-            Page::Help => HELP,
-            Page::Version => VERSION,
+            HelpPage::Help => HELP,
+            HelpPage::Version => VERSION,
         }
     }
 }
 
 /// Writes a page to `out`, tells why it could not be written whole, and returns how the program ends.
-pub fn show_page<W: Write, F: Write>(page: Page, out: &mut W, faults: &mut F) -> Status
+pub fn show_page<W: Write, F: Write>(page: HelpPage, out: &mut W, faults: &mut F) -> Status
     ensures { IsPageShown (page_text page) (W.contents out.old) (W.contents out.new) result }
 {
     match send(out, page.text().as_bytes()) {

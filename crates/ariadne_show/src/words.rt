@@ -13,7 +13,7 @@ ghost use Rattle.ariadne_show.specs.CommandWords.{texts_in, ForList, ForNames, I
 use crate::entries::{inputs_of, options_of, width_of, width_text};
 use crate::fault::Fault;
 use crate::options::{Input, Options};
-use crate::pages::{HELP, Page, VERSION};
+use crate::pages::{HELP, HelpPage, VERSION};
 use ariadne_safe::{TextKind, visible};
 use clap::builder::ValueParser;
 use clap::error::ErrorKind;
@@ -50,7 +50,7 @@ pub enum Request<'a> {
         inputs: Vec<Input<'a>>,
     },
     /// A text that the program has ready.
-    Page(Page),
+    Page(HelpPage),
 }
 
 /// Reads the words that the program was called with, without its own name.
@@ -70,8 +70,8 @@ pub fn read_words<'a>(alloc: Global, words: &'a [String]) -> Result<Request<'a>,
             None => Err(Fault::no_width(alloc, width_text(&matches))?),
         },
         Err(error) => match error.kind() {
-            ErrorKind::DisplayHelp => Ok(Request::Page(Page::Help)),
-            ErrorKind::DisplayVersion => Ok(Request::Page(Page::Version)),
+            ErrorKind::DisplayHelp => Ok(Request::Page(HelpPage::Help)),
+            ErrorKind::DisplayVersion => Ok(Request::Page(HelpPage::Version)),
             ErrorKind::OutOfMemory => Err(Fault::Memory(AllocError)),
             _ => Err(told_by_signs(alloc, words, error)?),
         },

@@ -1,7 +1,7 @@
 -- Each page has its text.
 use Rattle.std.proofs.Common.{refl}
-use Rattle.ariadne_commands.specs.HelpPages.{page_text}
-use Rattle.ariadne_commands.proofs.pages.Page.text.Goals as goal
+use Rattle.ariadne_show.specs.HelpPages.{page_text}
+use Rattle.ariadne_show.proofs.pages.HelpPage.text.Goals as goal
 
 pub returns-in-Help : goal.returns-in-Help
 unfolding page_text

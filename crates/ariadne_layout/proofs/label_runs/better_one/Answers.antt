@@ -1,7 +1,7 @@
 use Rattle.std.proofs.Common.{◌∙◌, ap, sym, inl, inr, option_copied}
-use Rattle.ariadne_layout.proofs.PartsOfLabels.{better-second, better-first, better-only}
-use Rattle.ariadne_layout.proofs.parts.better_one.Goals as goal
-use Rattle.ariadne_layout.proofs.parts.better_one.Goals.{in_default-via-in-Some+in_default, in_default-via-in_default}
+use Rattle.ariadne_layout.proofs.LabelRuns.{better-second, better-first, better-only}
+use Rattle.ariadne_layout.proofs.label_runs.better_one.Goals as goal
+use Rattle.ariadne_layout.proofs.label_runs.better_one.Goals.{in_default-via-in-Some+in_default, in_default-via-in_default}
 
 -- one of them is none
 pub returns-in_default : goal.returns-in_default

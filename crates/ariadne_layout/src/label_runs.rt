@@ -1,88 +1,88 @@
-//! The parts of a line that each show one of many labels: found for either half of the labels, and
+//! The runs of a line that each show one of many labels: found for either half of the labels, and
 //! merged.
 
 ghost use Rattle.std.specs.Prelude.{◌≡◌, ℕ, List, ◌++◌, IfOk, option_copied};
 ghost use Rattle.ariadne_picture.specs.declared.label_info.LabelInfo.{LabelInfo};
 ghost use Rattle.ariadne_layout.specs.Candidates.{AreThere, infos_among};
-ghost use Rattle.ariadne_layout.specs.Parts.{AreParts, better_one};
+ghost use Rattle.ariadne_layout.specs.LabelRuns.{AreLabelRuns, better_one};
 
 use crate::candidates::Candidates;
 use ariadne_picture::label_info::LabelInfo;
 use std::alloc::{AllocError, Global};
 
-/// The places from the end of the part before it, or from 0, to its own end.
+/// The places from the end of the run before it, or from 0, to its own end.
 #[derive(Clone, Copy, Debug)]
-pub struct Part<'a> {
+pub struct LabelRun<'a> {
     /// One past its last place.
     pub end: usize,
     /// The label that is shown there, if there is one.
     pub label: Option<&'a LabelInfo>,
 }
 
-/// So few labels are all looked at for each part.
+/// So few labels are all looked at for each run.
 const FEW: usize = 16;
 
-/// Finds the parts of the places below `len` that each show one of some labels, or none.
+/// Finds the runs of the places below `len` that each show one of some labels, or none.
 ///
 /// `offset` counts the characters of the source before the line.
-pub(crate) fn find_parts<'a>(
+pub(crate) fn find_label_runs<'a>(
     alloc: Global,
     labels: &Candidates<'a>,
     offset: usize,
     len: usize,
-) -> Result<Vec<Part<'a>>, AllocError>
+) -> Result<Vec<LabelRun<'a>>, AllocError>
     requires { AreThere labels.now }
-    ensures { IfOk result (λ v. AreParts (infos_among labels.now) offset len v.items) }
+    ensures { IfOk result (λ v. AreLabelRuns (infos_among labels.now) offset len v.items) }
 {
     if labels.count() <= FEW {
-        return find_parts_of_few(alloc, labels, offset, len);
+        return find_label_runs_of_few(alloc, labels, offset, len);
     }
     let (first, second) = labels.halves();
-    let first = find_parts(alloc, &first, offset, len)?;
-    let second = find_parts(alloc, &second, offset, len)?;
+    let first = find_label_runs(alloc, &first, offset, len)?;
+    let second = find_label_runs(alloc, &second, offset, len)?;
     merge(alloc, &first, &second)
 }
 
-/// Finds the parts as `find_parts` does, looking at all labels for each.
-fn find_parts_of_few<'a>(
+/// Finds the runs as `find_label_runs` does, looking at all labels for each.
+fn find_label_runs_of_few<'a>(
     alloc: Global,
     labels: &Candidates<'a>,
     offset: usize,
     len: usize,
-) -> Result<Vec<Part<'a>>, AllocError>
+) -> Result<Vec<LabelRun<'a>>, AllocError>
     requires { AreThere labels.now }
-    ensures { IfOk result (λ v. AreParts (infos_among labels.now) offset len v.items) }
+    ensures { IfOk result (λ v. AreLabelRuns (infos_among labels.now) offset len v.items) }
 {
-    let mut parts = Vec::new(alloc);
+    let mut runs = Vec::new(alloc);
     let mut place = 0;
     while place < len {
         let choice = labels.choose(offset, place, len - place);
         place += choice.len();
-        parts.push(Part {
+        runs.push(LabelRun {
             end: place,
             label: choice.label(),
         })?;
     }
-    Ok(parts)
+    Ok(runs)
 }
 
-/// Merges the parts of some labels with those of labels behind them.
+/// Merges the runs of some labels with those of labels behind them.
 fn merge<'a>(
     alloc: Global,
-    first: &[Part<'a>],
-    second: &[Part<'a>],
-) -> Result<Vec<Part<'a>>, AllocError>
-    ensures { (xs ys : List LabelInfo) (offset len : ℕ) → AreParts xs offset len first.now
-        → AreParts ys offset len second.now
-        → IfOk result (λ v. AreParts (xs ++ ys) offset len v.items) }
+    first: &[LabelRun<'a>],
+    second: &[LabelRun<'a>],
+) -> Result<Vec<LabelRun<'a>>, AllocError>
+    ensures { (xs ys : List LabelInfo) (offset len : ℕ) → AreLabelRuns xs offset len first.now
+        → AreLabelRuns ys offset len second.now
+        → IfOk result (λ v. AreLabelRuns (xs ++ ys) offset len v.items) }
 {
-    let mut parts = Vec::with_capacity(alloc, first.len().saturating_add(second.len()))?;
+    let mut runs = Vec::with_capacity(alloc, first.len().saturating_add(second.len()))?;
     let (mut i, mut j) = (0, 0);
     while i < first.len() && j < second.len() {
         let (a, b) = (first[i], second[j]);
         let end = a.end.min(b.end);
         let label = better_one(a.label, b.label);
-        parts.push(Part { end, label })?;
+        runs.push(LabelRun { end, label })?;
         if a.end == end {
             i += 1;
         }
@@ -90,7 +90,7 @@ fn merge<'a>(
             j += 1;
         }
     }
-    Ok(parts)
+    Ok(runs)
 }
 
 /// The label that is shown where the first of two lists of labels shows one label, or none, and the
