@@ -26,19 +26,20 @@ pub fn job(alloc: Global, line: LongLine, number: u16) -> Result<Job, AllocError
 /// The report's own span near the end of a long line, and below that line a group for each label,
 /// from the last to the first.
 fn header(alloc: Global, count: u16) -> Result<Job, AllocError> {
-    let mut job = Job::new(alloc, "byteheader", "\u{e9}b".repeat(alloc, 50_000)?);
-    job.text.push('\n')?;
-    job.text
-        .push_str(narrow(alloc, u32::from(count))?.as_str())?;
-    job.add(
-        alloc,
-        1,
-        Row::silent(HEADER_LINE_LEN - 7, HEADER_LINE_LEN - 4, 0),
-    )?;
+    let own = Row::silent(HEADER_LINE_LEN - 7, HEADER_LINE_LEN - 4, 0);
     let below = Row::said("m", HEADER_LINE_LEN + 14, HEADER_LINE_LEN + 19, 50);
+    let mut job = Job::of_row(alloc, "byteheader", header_text(alloc, count)?, 1, own)?;
     job.add_falling(alloc, count, below)?;
     job.in_bytes = true;
     Ok(job)
+}
+
+/// Its text: the long line, and numbered lines below it.
+fn header_text(alloc: Global, count: u16) -> Result<String, AllocError> {
+    let mut text = "\u{e9}b".repeat(alloc, 50_000)?;
+    text.push('\n')?;
+    text.push_str(narrow(alloc, u32::from(count))?.as_str())?;
+    Ok(text)
 }
 
 /// Words of ten bytes and nine characters, with a label each. The first one has a message.
@@ -53,13 +54,19 @@ fn bytes(alloc: Global, count: u16) -> Result<Job, AllocError> {
 
 /// A line with 100,000 blanks behind its word, and a line below it: labels in one and the other.
 fn trailing(alloc: Global, count: u16) -> Result<Job, AllocError> {
-    let mut job = Job::new(alloc, "trailing", String::from_str(alloc, "word")?);
-    job.text.push_str(" ".repeat(alloc, 100_000)?.as_str())?;
-    job.text.push_str("\nnext\n")?;
+    let mut job = Job::new(alloc, "trailing", trailing_text(alloc)?);
     for number in 0..count {
         job.marks.push(trailing_row(number).mark(alloc, number)?)?;
     }
     Ok(job)
+}
+
+/// Both lines.
+fn trailing_text(alloc: Global) -> Result<String, AllocError> {
+    let mut text = String::from_str(alloc, "word")?;
+    text.push_str(" ".repeat(alloc, 100_000)?.as_str())?;
+    text.push_str("\nnext\n")?;
+    Ok(text)
 }
 
 /// The mark of a number in that text: in the line below, or in the long one.

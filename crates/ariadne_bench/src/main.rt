@@ -183,14 +183,19 @@ fn check(rt: &(impl Print + AllocGlobal + Clock), names: &[String]) -> io::Resul
     Ok(true)
 }
 
-/// Prints the picture of `two` by the calls that print: to standard output, and to standard error.
+/// Prints a report by the calls that print: to standard output, and to standard error.
+fn print(rt: &HostRuntime, report: &Report<'_>, source: &mut Source<String>) -> io::Result<()> {
+    report.print(source, rt)?;
+    report.eprint(source, rt.stderr())?;
+    Ok(())
+}
+
+/// Prints the picture of `two`.
 fn print_two(rt: &HostRuntime) -> io::Result<()> {
     let job = jobs::job(rt.alloc(), Shape::Two, 2)?;
     let report = pictures::report_of(rt.alloc(), &job)?;
     let mut source = Source::from(rt.alloc(), job.text)?;
-    report.print(&mut source, rt)?;
-    report.eprint(&mut source, rt.stderr())?;
-    Ok(())
+    print(rt, &report, &mut source)
 }
 
 /// Prints a picture to both streams, and runs workloads as `check` does.

@@ -3,7 +3,7 @@
 use crate::order::Named;
 use crate::pictures::plain;
 use crate::texts::push_line;
-use ariadne::{Label, Report, ReportKind, SourceMap, sources};
+use ariadne::{Label, Report, ReportBuilder, ReportKind, SourceMap, sources};
 use std::alloc::{AllocError, Global};
 use std::ops::Range;
 
@@ -52,6 +52,19 @@ fn label_of(alloc: Global, named: Named, number: u16) -> Result<Label<Place>, Al
     label.with_message(alloc, message.as_str())
 }
 
+/// Adds so many labels to a report.
+fn add_labels(
+    alloc: Global,
+    report: &mut ReportBuilder<'_, Place>,
+    named: Named,
+    labels: u16,
+) -> Result<(), AllocError> {
+    for number in 0..labels {
+        report.add_label(label_of(alloc, named, number)?)?;
+    }
+    Ok(())
+}
+
 /// A report with so many labels. Its own span is that of the first one.
 pub fn report(
     alloc: Global,
@@ -62,9 +75,7 @@ pub fn report(
     let mut report = Report::build(alloc, ReportKind::Error, span)
         .with_config(plain())
         .with_message(title_of(named))?;
-    for number in 0..labels {
-        report.add_label(label_of(alloc, named, number)?)?;
-    }
+    add_labels(alloc, &mut report, named, labels)?;
     Ok(report.finish())
 }
 

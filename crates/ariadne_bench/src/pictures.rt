@@ -3,7 +3,9 @@
 ghost use Rattle.std.specs.Prelude.{◌≤◌};
 
 use crate::job::{Job, Mark};
-use ariadne::{Cache, CharSet, Color, Config, IndexType, Label, Report, ReportKind, Span};
+use ariadne::{
+    Cache, CharSet, Color, Config, IndexType, Label, Report, ReportBuilder, ReportKind, Span,
+};
 use ariadne_safe::{SafeBuilder, SafeKind, SafeReport, SafeSources};
 use std::alloc::{AllocError, Global};
 use std::io;
@@ -64,15 +66,21 @@ pub fn report_of(alloc: Global, job: &Job) -> Result<Report<'static>, AllocError
     let mut report = Report::build(alloc, ReportKind::Error, span)
         .with_config(config_of(job))
         .with_message(job.message)?;
+    add_labels(alloc, &mut report, job)?;
+    Ok(report.finish())
+}
+
+/// Adds the labels of a job to a report.
+fn add_labels(alloc: Global, report: &mut ReportBuilder<'_>, job: &Job) -> Result<(), AllocError> {
     for (number, mark) in job.marks.iter().enumerate() {
         let label = label_of(alloc, mark)?;
-        report.add_label(if job.is_colored {
-            colored(label, number)
+        if job.is_colored {
+            report.add_label(colored(label, number))?;
         } else {
-            label
-        })?;
+            report.add_label(label)?;
+        }
     }
-    Ok(report.finish())
+    Ok(())
 }
 
 /// The safe report of a job that has no colours, over the first of these sources.
@@ -90,13 +98,19 @@ pub fn safe_report_of<'s>(
         config_of(job),
     ).with_message(job.message)?;
     for mark in job.marks.iter() {
-        let label = Label::new((0, span_of(mark)));
-        report = match &mark.message {
-            Some(message) => report.with_label(label.with_message(alloc, message.as_str())?)?,
-            None => report.with_label(label)?,
-        };
+        let label = safe_label_of(alloc, mark)?;
+        report = report.with_label(label)?;
     }
     Ok(report.finish())
+}
+
+/// The label of a mark in the first source.
+fn safe_label_of(alloc: Global, mark: &Mark) -> Result<Label<(usize, Range<usize>)>, AllocError> {
+    let label = Label::new((0, span_of(mark)));
+    match &mark.message {
+        Some(message) => label.with_message(alloc, message.as_str()),
+        None => Ok(label),
+    }
 }
 
 /// Writes a report `rounds` times, each time into the same room.

@@ -103,15 +103,21 @@ fn missing(_id: &String) -> Result<String, ()> {
 }
 
 /// The sources of a case by their ids.
-fn given_sources(
-    alloc: Global,
-    case: &Value,
-) -> Result<HashMap<String, Source<String>>, AllocError> {
+type Given = HashMap<String, Source<String>>;
+
+/// Adds a source of a case.
+fn add_source(alloc: Global, given: &mut Given, told: &Value) -> Result<(), AllocError> {
+    let source = counted(alloc, text_in(told), told)?;
+    let id = text(told, "id").unwrap_or("").to_string(alloc)?;
+    given.insert(id, source)?;
+    Ok(())
+}
+
+/// The sources of a case.
+fn given_sources(alloc: Global, case: &Value) -> Result<Given, AllocError> {
     let mut given = HashMap::new(alloc);
     for told in list(case, "sources") {
-        let source = counted(alloc, text_in(told), told)?;
-        let id = text(told, "id").unwrap_or("").to_string(alloc)?;
-        given.insert(id, source)?;
+        add_source(alloc, &mut given, told)?;
     }
     Ok(given)
 }
