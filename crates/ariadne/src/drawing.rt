@@ -15,8 +15,8 @@ ghost use Rattle.ariadne.specs.WholePages.{shown_palette};
 
 use ariadne_base::{Cache, Span};
 use ariadne_color::Color;
-use ariadne_layout::texts::Texts;
 use ariadne_picture::label_info::LabelInfo;
+use ariadne_picture::texts::Texts;
 use ariadne_render::frames::push_snippet;
 use ariadne_render::headers::push_header;
 use ariadne_render::lines::Lists;

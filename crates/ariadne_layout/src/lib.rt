@@ -1,7 +1,7 @@
-//! What a picture shows, before any of it is drawn: the texts of a report, a group over its source as a
-//! snippet (`snippet`), the labels of a group by line (`snippet_labels`), and what is seen at each place of
-//! a line (`layout`, `cuts`, `line_columns`, `table`). What is public here serves the crates above, and is
-//! no part of the surface of `ariadne`.
+//! What a picture shows, before any of it is drawn: a group over its source as a snippet (`snippet`), the
+//! labels of a group by line (`snippet_labels`), and what is seen at each place of a line (`layout`, `cuts`,
+//! `line_columns`, `table`). What is public here serves the crates above, and is no part of the surface of
+//! `ariadne`.
 //!
 //! Lines, ranks, columns and places count from 0; places and offsets count characters.
 #![tactic(auto)]
@@ -22,5 +22,4 @@ pub mod snippet_labels;
 pub mod snippet_line;
 pub mod stretches;
 pub mod table;
-pub mod texts;
 pub mod verticals;

@@ -12,10 +12,10 @@ ghost use Rattle.ariadne_layout.specs.Snippets.{location_numbers};
 ghost use Rattle.ariadne_layout.specs.Snippets.{AreOverLines, IsSnippet, sheet_in, snippet_of};
 
 use crate::line_text::LineText;
-use crate::texts::Texts;
 use ariadne_base::{Line, Source, SourceText};
 use ariadne_picture::label_info::LabelInfo;
 use ariadne_picture::switches::Switches;
+use ariadne_picture::texts::Texts;
 use std::marker::Model;
 
 /// A group of labels over its source, with the texts that are drawn with it.

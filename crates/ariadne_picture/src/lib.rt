@@ -39,4 +39,5 @@ pub mod label_info;
 pub mod laws;
 pub mod sight;
 pub mod switches;
+pub mod texts;
 pub mod verdict;

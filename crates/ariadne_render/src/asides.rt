@@ -17,8 +17,8 @@ use crate::writer::Writer;
 use ariadne_base::SourceText;
 use ariadne_layout::digits::decimal_len;
 use ariadne_layout::snippet::Snippet;
-use ariadne_layout::texts::Texts;
 use ariadne_picture::cell::Paint;
+use ariadne_picture::texts::Texts;
 use std::alloc::AllocError;
 
 /// What stands below the lines of the last group.

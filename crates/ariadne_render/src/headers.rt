@@ -11,8 +11,8 @@ ghost use Rattle.ariadne_render.specs.Pages.{Adds, Draws, DrawsRow};
 use crate::pen::Pen;
 use ariadne_base::SourceText;
 use ariadne_layout::snippet::Snippet;
-use ariadne_layout::texts::Texts;
 use ariadne_picture::cell::{Glyph, Paint};
+use ariadne_picture::texts::Texts;
 use std::alloc::AllocError;
 
 /// The paint of the strokes round the lines of a group.

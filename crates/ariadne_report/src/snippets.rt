@@ -11,8 +11,8 @@ use crate::accept::offset_in_chars;
 use crate::report_data::ReportData;
 use ariadne_base::{Cache, Span};
 use ariadne_layout::snippet::Snippet;
-use ariadne_layout::texts::Texts;
 use ariadne_picture::label_info::LabelInfo;
+use ariadne_picture::texts::Texts;
 use std::alloc::AllocError;
 
 /// The messages of a report's labels, by position. On `Err` there was no memory for them.

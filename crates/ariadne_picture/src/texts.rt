@@ -3,7 +3,7 @@
 ghost use Rattle.std.specs.Prelude.{◌≡◌, map, string_bytes};
 ghost use Rattle.ariadne_picture.specs.Pieces.{message_at};
 
-use ariadne_picture::switches::Switches;
+use crate::switches::Switches;
 use std::marker::Model;
 
 /// What a picture reads of a report beside the labels: its switches and its texts. Who reads the
@@ -70,7 +70,7 @@ impl<'a> Texts<'a> {
     }
 
     /// The message of the label at a position, or an empty text.
-    #[tactic(auto, unfolding(ariadne_picture::specs::Pieces::message_at))]
+    #[tactic(auto, unfolding(crate::specs::Pieces::message_at))]
     pub fn message_of(&self, position: usize) -> &'a str
         ensures { result.now ≡ message_at self.now position }
     {
