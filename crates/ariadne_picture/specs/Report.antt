@@ -1,6 +1,8 @@
 -- A report as a record of fields, as its calls set them, and what the picture reads of the outside:
 -- ids, names and sources. Texts are their bytes in UTF-8.
-use Rattle.std.specs.Prelude.{◌≡◌, ℕ, ◌≤◌, ℤ, pos, Bool, true, false, List, [], Option, None}
+use Rattle.std.specs.Prelude.{◌≡◌, ℕ, ◌≤◌, ℤ, pos, Bool, true, false, if◌then◌else◌, List, []}
+use Rattle.std.specs.Prelude.{Option, Some, None, codes}
+use Rattle.std.specs.Str.{bytes_eq}
 use Rattle.std.specs.List.{AllByRecursion}
 use Rattle.ariadne_base.specs.Listing.{Listing}
 use Rattle.ariadne_color.specs.declared.color.Color.{Color}
@@ -43,6 +45,17 @@ default_config = record {
   char_set = Unicode;
   index_type = Char;
 }
+
+-- a configuration with the switch of this name on or off, if a switch has the name
+abbrev pub switched : ConfigFields → List ℕ → Bool → Option ConfigFields
+switched config name is_on =
+    if bytes_eq name (codes "cross_gap") then Some (record config { cross_gap = is_on }) else
+    (if bytes_eq name (codes "compact") then Some (record config { compact = is_on }) else
+    (if bytes_eq name (codes "underlines") then Some (record config { underlines = is_on }) else
+    (if bytes_eq name (codes "lone_underlines") then Some (record config { lone_underlines = is_on }) else
+    (if bytes_eq name (codes "multiline_arrows") then Some (record config { multiline_arrows = is_on }) else
+    (if bytes_eq name (codes "color") then Some (record config { color = is_on }) else
+    None)))))
 
 -- what a report is: one of three, or of a name and a colour of its own
 pub data Kind : Type 0 where

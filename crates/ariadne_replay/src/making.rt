@@ -3,7 +3,7 @@
 ghost use Rattle.std.specs.Prelude.{◌+◌, ◌<◌, ◌≤◌, ◌^◌};
 
 use crate::colors::color_of;
-use crate::members::{color, count, list, number, switch, text, text_of, word};
+use crate::members::{color, count, list, number, text, text_of, word};
 use crate::offsets::Placed;
 use crate::suggesting::add_suggestion;
 use ariadne::{
@@ -50,19 +50,31 @@ pub fn tab_width_of(case: &Value) -> usize
     tab_width.max(1)
 }
 
-/// The settings of a case that are switches or numbers. They are plain where it tells nothing else, and
-/// otherwise the default ones.
+/// Settings with a member of a case, if a switch has its name.
+fn with_member(config: Config, name: &str, value: &Value) -> Config {
+    match value.as_bool() {
+        Some(is_on) => config.with_switch(name, is_on).unwrap_or(config),
+        None => config,
+    }
+}
+
+/// The switches of a case. It is plain where it tells nothing else, and has the other defaults.
 fn switched(told: &Value) -> Config {
+    let mut config = Config::new().with_color(false);
+    if let Some(members) = told.as_table() {
+        for (name, value) in members {
+            config = with_member(config, name, value);
+        }
+    }
+    config
+}
+
+/// The settings of a case that are numbers, and its switches.
+fn numbered_settings(told: &Value) -> Config {
     let context_lines = count(told, "context_lines").unwrap_or(0) as usize;
     let width = count(told, "width").unwrap_or(0) as usize;
     let tab_width = count(told, "tab_width").unwrap_or(4) as usize;
-    Config::new()
-        .with_cross_gap(switch(told, "cross_gap", true))
-        .with_compact(switch(told, "compact", false))
-        .with_underlines(switch(told, "underlines", true))
-        .with_lone_underlines(switch(told, "lone_underlines", false))
-        .with_multiline_arrows(switch(told, "multiline_arrows", true))
-        .with_color(switch(told, "color", false))
+    switched(told)
         .with_context_lines(context_lines)
         .with_width(width)
         .with_tab_width(tab_width.max(1))
@@ -73,7 +85,7 @@ fn switched(told: &Value) -> Config {
 pub fn config_of(case: &Value) -> Config {
     let told = case.get("settings").unwrap_or(case);
     let middle = LabelAttach::Middle;
-    switched(told)
+    numbered_settings(told)
         .with_label_attach(word(told, "label_attach", &LABEL_ATTACHES, middle))
         .with_char_set(word(told, "char_set", &CHAR_SETS, CharSet::Ascii))
         .with_index_type(word(told, "index_type", &INDEX_TYPES, IndexType::Char))

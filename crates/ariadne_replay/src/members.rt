@@ -37,11 +37,6 @@ pub fn color(told: &Value, name: &str) -> Option<Color> {
     color_of(text(told, name)?)
 }
 
-/// A member that is a switch, or its default.
-pub fn switch(told: &Value, name: &str, default: bool) -> bool {
-    told.get(name).and_then(Value::as_bool).unwrap_or(default)
-}
-
 /// A member that is a number from 0 on. One that is past a TOML number's is given as a text, by its
 /// digits.
 pub fn count(told: &Value, name: &str) -> Option<u64> {

@@ -1,7 +1,7 @@
 //! The settings of a picture.
 
 ghost use Rattle.std.specs.Prelude.{◌≡◌, ◌≤◌};
-ghost use Rattle.ariadne_picture.specs.Report.{switches_of};
+ghost use Rattle.ariadne_picture.specs.Report.{switched, switches_of};
 
 use ariadne_picture::switches::Switches;
 pub use ariadne_picture::switches::{CharSet, IndexType, LabelAttach};
@@ -293,6 +293,23 @@ impl Config {
     {
         self.index_type = index_type;
         self
+    }
+
+    /// The same settings with the switch of this name on or off, or `None` if no switch has the name. The
+    /// names are those of the calls without `with_`: `"compact"` and `true` set what `with_compact(true)`
+    /// sets. So a file may have the settings.
+    pub fn with_switch(self, name: &str, is_on: bool) -> Option<Config>
+        ensures { result ≡ switched self name.now is_on }
+    {
+        Some(match name {
+            "cross_gap" => self.with_cross_gap(is_on),
+            "compact" => self.with_compact(is_on),
+            "underlines" => self.with_underlines(is_on),
+            "lone_underlines" => self.with_lone_underlines(is_on),
+            "multiline_arrows" => self.with_multiline_arrows(is_on),
+            "color" => self.with_color(is_on),
+            _ => return None,
+        })
     }
 
     /// The settings of the layout.

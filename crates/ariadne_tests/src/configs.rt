@@ -28,6 +28,28 @@ fn a_new_configuration_is_the_default(rt: HostRuntime) {
     assert!(rt; IndexType::Byte != IndexType::Char);
 }
 
+#[test]
+fn a_switch_has_the_name_of_its_call(rt: HostRuntime) {
+    let config = Config::new().with_compact(true);
+    assert_same(
+        &rt,
+        &Config::new().with_switch("compact", true),
+        &Some(config),
+    );
+    assert_same(
+        &rt,
+        &config.with_switch("compact", false),
+        &Some(Config::new()),
+    );
+    let plain = Config::new().with_color(false);
+    assert_same(
+        &rt,
+        &Config::new().with_switch("color", false),
+        &Some(plain),
+    );
+    assert_same(&rt, &Config::new().with_switch("with_compact", true), &None);
+}
+
 /// A report of one word, in the colours that a report has where none says otherwise.
 fn colored(alloc: Global) -> Result<Report<'static>, AllocError> {
     let builder = Report::build(alloc, ReportKind::Error, 0..0).with_message("m")?;
