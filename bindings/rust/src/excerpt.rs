@@ -80,6 +80,9 @@ impl Spans {
     }
 }
 
+/// The lines that the outermost ends of spans are on.
+pub(crate) type Lines = [usize; 2];
+
 /// A line that a span begins or ends on, and the last line of that span.
 struct End {
     line: usize,
@@ -90,12 +93,12 @@ struct End {
 }
 
 /// The lines that these spans begin or end on, in their order. A line is there as often as one does.
-fn ends_of<I: AsRef<str>>(source: &Source<I>, spans: &[Ends], in_bytes: bool) -> Vec<End> {
+fn ends_of<I: AsRef<str>>(source: &Source<I>, spans: &[Ends], outer: Lines, in_bytes: bool) -> Vec<End> {
     let mut ends = Vec::with_capacity(spans.len());
-    let mut near = 0;
+    let mut near = outer[0];
     for (span, [first, last]) in spans.iter().enumerate() {
-        let line = source.line_number(*first, in_bytes, near);
-        let last_line = source.line_number(*last, in_bytes, line);
+        let line = source.line_number(*first, in_bytes, [near, outer[0], outer[1]]);
+        let last_line = source.line_number(*last, in_bytes, [line, outer[1]]);
         if line == last_line {
             ends.push(End { line, last_line, span, sides: 0..=1 });
         } else {
@@ -157,21 +160,21 @@ pub(crate) struct FewLines<'s> {
 }
 
 impl<'s> FewLines<'s> {
-    /// Those of so many spans, of which these are the outermost ends. None where they are many.
+    /// Those of so many spans, of which these are the outermost ends. Where they are many, the lines of these.
     #[inline]
     pub(crate) fn of<I: AsRef<str>>(
         source: &'s Source<I>,
         ends: Ends,
         spans: usize,
         config: &Config,
-    ) -> Option<FewLines<'s>> {
+    ) -> Result<FewLines<'s>, Lines> {
         let last_line = source.last_line();
         if last_line > FEW_LINES * spans {
             return FewLines::among_many(source, ends, spans, config);
         }
         let (text, line_offset) = (source.text(), source.display_line_offset());
         let longest = source.longest_of(0..=last_line);
-        Some(FewLines { text, line_offset, start: 0, count: last_line + 1, longest })
+        Ok(FewLines { text, line_offset, start: 0, count: last_line + 1, longest })
     }
 
     /// The same of a source that has many lines.
@@ -181,19 +184,19 @@ impl<'s> FewLines<'s> {
         [first, last]: Ends,
         spans: usize,
         config: &Config,
-    ) -> Option<FewLines<'s>> {
+    ) -> Result<FewLines<'s>, Lines> {
         let in_bytes = config.index_type == IndexType::Byte;
-        let first = source.line_number(first, in_bytes, 0);
-        let last = source.line_number(last, in_bytes, first);
+        let first = source.line_number(first, in_bytes, [0]);
+        let last = source.line_number(last, in_bytes, [first]);
         if last - first > FEW_LINES * spans {
-            return None;
+            return Err([first, last]);
         }
         let first = first.saturating_sub(config.context_lines);
         let last = last.saturating_add(config.context_lines).min(source.last_line());
         let (start, _, text) = source.lines_with_text(first..=last, in_bytes);
         let line_offset = source.display_line_offset().saturating_add(first);
         let longest = source.longest_of(first..=last);
-        Some(FewLines { text, line_offset, start, count: last - first + 1, longest })
+        Ok(FewLines { text, line_offset, start, count: last - first + 1, longest })
     }
 
     #[inline]
@@ -209,18 +212,19 @@ impl Excerpt<'_> {
     }
 
     /// The lines that these spans begin or end on, those near them, and what stands for those between. The spans are
-    /// moved to what is lent, whose shape is told too.
+    /// moved to what is lent, whose shape is told too. The lines of the outermost ends are looked at first.
     pub(crate) fn of_lines_apart<I: AsRef<str>>(
         source: &Source<I>,
         spans: &mut Spans,
+        outer: Lines,
         numbers: &mut Numbers,
         config: &Config,
     ) -> (Excerpt<'static>, Shape) {
         let in_bytes = config.index_type == IndexType::Byte;
-        let ends = ends_of(source, &spans.ends, in_bytes);
+        let ends = ends_of(source, &spans.ends, outer, in_bytes);
         let runs = runs_of(&ends, config.context_lines, source.last_line());
         let stand_ins = stand_ins(source, spans, &runs, numbers, config);
-        let mut lent = Lent::default();
+        let mut lent = Lent::with_room(runs.iter().map(|run| source.bytes_of(run.first..=run.last) + 1).sum());
         let mut rest = ends.as_slice();
         for (at, run) in runs.iter().enumerate() {
             if at > 0 {
@@ -260,7 +264,7 @@ fn stand_ins<I: AsRef<str>>(
     }
     source.display_line_offset().checked_add(last + 1)?;
     let last_offset = spans.labels().iter().map(|ends| ends[1]).max()?;
-    let last_line = source.line_number(last_offset, in_bytes, last);
+    let last_line = source.line_number(last_offset, in_bytes, [last]);
     let last_shown = last_line.saturating_add(config.context_lines).min(source.last_line());
     let greatest = source.display_line_offset() + last_shown + 1;
     numbers.take(lent + runs.len() - 1, greatest.ilog10() + 1)
@@ -278,13 +282,21 @@ struct Lent {
 }
 
 impl Lent {
+    /// Nothing, with room for so many bytes.
+    fn with_room(len: usize) -> Lent {
+        Lent { text: String::with_capacity(len), ..Lent::default() }
+    }
+
     /// Appends what stands for the lines between two: an empty line for each or for all, and where a span runs
     /// over them blanks for all their other characters.
     fn hide<I: AsRef<str>>(&mut self, source: &Source<I>, line: usize, run: &Run, as_one: bool) {
         let lines = if as_one { 1 } else { run.first - line - 1 };
         let len = if run.is_within { source.len_between(line, run.first) } else { lines };
         self.text.push_str(&BLANK.repeat(len - lines));
-        self.text.push_str(&EMPTY_LINE.repeat(lines));
+        match lines {
+            1 => self.text.push_str(EMPTY_LINE),
+            _ => self.text.push_str(&EMPTY_LINE.repeat(lines)),
+        }
         self.len += len;
         self.lines += lines;
     }
@@ -334,7 +346,7 @@ mod tests {
 
     /// What is lent of lines apart.
     fn apart(source: &Source<&str>, spans: &mut Spans, config: &Config) -> Excerpt<'static> {
-        Excerpt::of_lines_apart(source, spans, &mut Numbers::default(), config).0
+        Excerpt::of_lines_apart(source, spans, [0; 2], &mut Numbers::default(), config).0
     }
 
     /// A label over these characters. Without a word it only marks.
@@ -351,24 +363,30 @@ mod tests {
         [span.start, span.end.saturating_sub(1).max(span.start)]
     }
 
-    /// Asserts that a report is drawn as over the whole source: as it is written, and where lines apart are lent.
-    /// Returns whether numbers have stand-ins then.
-    fn assert_draws_alike(source: &Source<String>, labels: Vec<Label>, at: usize, config: Config) -> bool {
-        let told = format!("{labels:?} at {at}, {config:?}");
-        let ends = labels.iter().map(|label| ends_of(&label.span)).chain([[at; 2]]).collect();
+    /// A report that says nothing but its labels, and whose header names a place.
+    fn report_of(labels: Vec<Label>, at: usize, config: Config) -> Report<'static> {
+        Report::build(ReportKind::Error, at..at).with_config(config).with_labels(labels).finish()
+    }
+
+    /// Asserts that a report, whose header names a place, is drawn as over the whole source: as it is written, and in
+    /// each way where lines apart are lent. Returns how many ways there are if numbers have stand-ins then, and else 0.
+    fn assert_draws_alike(source: &Source<String>, report: &Report, at: usize) -> usize {
+        let config = report.content.config;
+        let told = format!("{report:?} {:?} at {at}", report.labels);
+        let ends = report.labels.iter().map(|label| ends_of(&label.span)).chain([[at; 2]]).collect();
         let mut spans = Spans { ends, has_place: true };
-        let report = Report::build(ReportKind::Error, at..at).with_config(config).with_labels(labels).finish();
         let line_offsets = [source.display_line_offset(); 2];
         let whole = Excerpt { text: Cow::Borrowed(source.text()), line_offsets };
-        let want = report.picture_over(whole, &spans, Numbers::default());
+        let want = report.pictures_over(whole, &spans, Numbers::default()).remove(0);
         let mut out = Vec::new();
         report.write(source, &mut out).unwrap();
         assert_eq!(String::from_utf8(out).unwrap(), want, "{told}");
         let mut numbers = Numbers::default();
-        let (apart, _) = Excerpt::of_lines_apart(source, &mut spans, &mut numbers, &config);
+        let (apart, _) = Excerpt::of_lines_apart(source, &mut spans, [0; 2], &mut numbers, &config);
         let has_stand_ins = apart.has_stand_ins();
-        assert_eq!(report.picture_over(apart, &spans, numbers), want, "{told}");
-        has_stand_ins
+        let pictures = report.pictures_over(apart, &spans, numbers);
+        pictures.iter().for_each(|picture| assert_eq!(*picture, want, "{told}"));
+        if has_stand_ins { pictures.len() } else { 0 }
     }
 
     #[test]
@@ -414,8 +432,8 @@ mod tests {
         let counts = (lines.start, lines.count, lines.longest);
         let excerpt = lines.excerpt();
         assert_eq!((&*excerpt.text, excerpt.line_offsets, counts), ("cd\nef\ngh\nij\nkl\nmn\n", [21; 2], (3, 6, 3)));
-        assert!(FewLines::of(&source, [1, 19], 2, &PLAIN).is_none());
-        assert!(FewLines::of(&source, [1, 19], 3, &PLAIN).is_some());
+        assert_eq!(FewLines::of(&source, [1, 19], 2, &PLAIN).err(), Some([0, 6]));
+        assert!(FewLines::of(&source, [1, 19], 3, &PLAIN).is_ok());
     }
 
     #[test]
@@ -424,7 +442,7 @@ mod tests {
         let source = Source::from(text.as_str()).with_display_line_offset(20);
         let mut spans = Spans { ends: vec![[2, 2], [2000, 2000], [3990, 3990]], has_place: true };
         let mut numbers = Numbers::default();
-        let (excerpt, _) = Excerpt::of_lines_apart(&source, &mut spans, &mut numbers, &PLAIN);
+        let (excerpt, _) = Excerpt::of_lines_apart(&source, &mut spans, [0; 2], &mut numbers, &PLAIN);
         // (The numbers are 22, 1021 and 2016; those of labels have four digits at the most.)
         assert_eq!((&*excerpt.text, excerpt.line_offsets), ("z\n\x0cb\n\x0cz\n", [999, 3221]));
         assert_eq!(spans.ends, [[0, 0], [3, 3], [6, 6]]);
@@ -459,7 +477,7 @@ mod tests {
                 for other in [half..half + 2, 0..half, 4..len] {
                     for word in [Some("x"), None] {
                         let labels = vec![label(start..end, word), label(other.clone(), Some("y"))];
-                        assert_draws_alike(&source, labels, end / 3, config);
+                        assert_draws_alike(&source, &report_of(labels, end / 3, config), end / 3);
                     }
                 }
             }
@@ -471,7 +489,51 @@ mod tests {
         let text = "aa\nbbbbbbbb\ncc\ndddd\nee\n".to_string() + &"z\n".repeat(1 << 15);
         let source = Source::from(text);
         for (word, [one, two]) in [(Some("x"), [0..4, 11..16]), (None, [0..8, 6..16])] {
-            assert_draws_alike(&source, vec![label(one, word), label(two, Some("y"))], 0, PLAIN);
+            let labels = vec![label(one, word), label(two, Some("y"))];
+            assert_draws_alike(&source, &report_of(labels, 0, PLAIN), 0);
+        }
+    }
+
+    #[test]
+    fn a_column_is_no_number_of_a_line() {
+        let source = Source::from("z".repeat(7000) + "\n" + &"z\n".repeat(2000));
+        for (at, config) in (6985..7000).flat_map(|at| [(at, PLAIN), (at, PLAIN.with_compact(true))]) {
+            let labels = vec![label(at..at + 1, Some("x")), label(10_000..10_001, Some("y"))];
+            assert_eq!(assert_draws_alike(&source, &report_of(labels, at, config.with_width(40)), at), 2);
+        }
+    }
+
+    #[test]
+    fn texts_that_have_each_mark_are_drawn_twice() {
+        let source = Source::from("z\n".repeat(2000));
+        let marks: Vec<String> = (692..700).map(|mark| mark.to_string()).collect();
+        for (said, ways) in [(marks.join(" "), 1), (marks[1..].join("\n"), 2)] {
+            let labels = vec![label(0..1, Some("x")), label(3996..3997, Some("y"))];
+            let report = |labels| Report::build(ReportKind::Custom("k", Color::Red), 0..0).with_labels(labels);
+            let reports = [
+                report(labels.clone()).with_message(&said).finish(),
+                report(labels.clone()).with_code(&said).finish(),
+                report(labels.clone()).with_help(&said).finish(),
+                report(labels.clone()).with_note(&said).finish(),
+                report(labels.clone()).with_label(label(0..1, Some(&said))).finish(),
+                Report::build(ReportKind::Custom(&said, Color::Red), 0..0).with_labels(labels.clone()).finish(),
+            ];
+            for report in reports {
+                assert_eq!(assert_draws_alike(&source, &report, 0), ways, "{said}");
+            }
+            let source = Source::from(said + "\n" + source.text());
+            assert_eq!(assert_draws_alike(&source, &report_of(labels, 0, PLAIN), 0), ways);
+        }
+    }
+
+    #[test]
+    fn notes_with_many_numbers_are_drawn_twice() {
+        let source = Source::from("z\n".repeat(999));
+        for (count, ways) in [(99, 2), (100, 1), (700, 1)] {
+            let mut builder = Report::build(ReportKind::Advice, 0..0).with_config(PLAIN);
+            (0..count).for_each(|_| builder.add_note("n"));
+            let report = builder.with_labels([label(0..1, Some("x")), label(1996..1997, Some("y"))]).finish();
+            assert_eq!(assert_draws_alike(&source, &report, 0), ways, "{count}");
         }
     }
 
@@ -494,6 +556,15 @@ mod tests {
             self.below(2) == 0
         }
 
+        /// A text that may look like a number of a line, or like a part of a picture.
+        fn text(&mut self) -> &'static str {
+            self.one_of(&[
+                "x", "", "6", "69", "699 698", "6999", ":699:6 ]", ":1000:1 ]", "x\n 1000 | y", "x\n 6990 | y",
+                "x\r\n   699 \u{2502} y", "\n  ,-[ a:69999:1 ]\n", "\u{1b}[38;5;246m 6999", "4 5 6",
+                "69 68 67 66 65 64 63 62",
+            ])
+        }
+
         /// A source in whose text the other one stands often, and between lines of one character. And where it does,
         /// in characters or in bytes, and at last the end.
         fn source(&mut self, in_bytes: bool) -> (Source<String>, Vec<usize>) {
@@ -502,6 +573,7 @@ mod tests {
             for _ in 0..2 + self.below(3) {
                 places.push(len(&text));
                 text += TEXT;
+                text += if self.below(4) == 0 { self.text() } else { "" };
                 text.push('\n');
                 text += &"z\n".repeat(self.below(3000));
             }
@@ -517,10 +589,28 @@ mod tests {
                 1 => (ends[0], ends[0] + self.below(TEXT.len())),
                 _ => (ends[0], ends[0] + self.below(3)),
             };
-            let word = self.one_of(&[None, Some("x"), Some(":1000:1 ]"), Some("x\n 1000 | y")]);
-            let color = self.one_of(&[Color::Red, Color::Blue]);
+            let word = (self.below(3) > 0).then(|| self.text());
+            let color =
+                self.one_of(&[Color::Red, Color::Blue, Color::Fixed(69), Color::Fixed(169), Color::Rgb(69, 6, 169)]);
             let [order, priority] = [0; 2].map(|_| self.below(3) as i32);
             label(start..end, word).with_color(color).with_order(order).with_priority(priority)
+        }
+
+        /// A report with these labels, which may say more.
+        fn report(&mut self, labels: Vec<Label>, at: usize, config: Config) -> Report<'static> {
+            let kind = ReportKind::Custom(self.text(), Color::Fixed(96));
+            let kind = self.one_of(&[ReportKind::Error, kind]);
+            let mut builder = Report::build(kind, at..at).with_config(config).with_labels(labels);
+            if self.bool() {
+                builder.set_message(self.text());
+            }
+            for _ in 0..self.one_of(&[0, 0, 1, 2, 12]) {
+                builder.add_help(self.text());
+            }
+            for _ in 0..self.one_of(&[0, 0, 1, 2, 101]) {
+                builder.add_note(self.text());
+            }
+            if self.bool() { builder.with_code(self.text()).finish() } else { builder.finish() }
         }
 
         fn config(&mut self, index: IndexType) -> Config {
@@ -543,15 +633,16 @@ mod tests {
     #[test]
     fn random_reports_over_lines_far_apart_are_drawn_as_over_the_source() {
         let mut random = Random(1);
-        let mut with_stand_ins = 0;
+        let mut counts = [0; 3]; // of reports, by the ways in which they are drawn with stand-ins
         for _ in 0..3000 {
             let index = random.one_of(&[IndexType::Char, IndexType::Byte]);
             let (source, places) = random.source(index == IndexType::Byte);
             let labels: Vec<Label> = (0..1 + random.below(5)).map(|_| random.label(&places)).collect();
             let at = random.one_of(&places) + random.below(TEXT.len());
             let config = random.config(index);
-            with_stand_ins += usize::from(assert_draws_alike(&source, labels, at, config));
+            let report = random.report(labels, at, config);
+            counts[assert_draws_alike(&source, &report, at)] += 1;
         }
-        assert!(with_stand_ins > 500, "{with_stand_ins}");
+        assert!(counts.iter().all(|count| *count > 200), "{counts:?}");
     }
 }

@@ -2,10 +2,11 @@
 
 use crate::call::{draw, GivenLabel, GivenSource, OptionalText, Refusal, Room, Text};
 use crate::config::{CharSet, Config};
-use crate::excerpt::{Excerpt, FewLines, Shape, Spans};
+use crate::excerpt::{Excerpt, FewLines, Lines, Shape, Spans};
 use crate::held::Held;
 use crate::members::Members;
-use crate::numbers::Numbers;
+use crate::numbers::{place_of, Numbers};
+use crate::prepared::texts_of;
 use crate::report::Report;
 use crate::source::Source;
 use crate::span::Span;
@@ -38,7 +39,7 @@ pub(crate) struct Lending<'a, S: Span> {
     /// The sources that could not be had so far. Those behind them were not asked for.
     missing: Vec<usize>,
     numbers: Numbers,
-    /// Whether lines that are left out have stand-ins, so that it is drawn twice.
+    /// Whether numbers of lines have stand-ins.
     has_stand_ins: bool,
     shape: Shape,
 }
@@ -157,8 +158,9 @@ impl<'a, S: Span> Lending<'a, S> {
         let config = self.config();
         self.sources += 1;
         self.placed += members.count;
-        let Some(lines) = FewLines::of(source, members.outer.ends(), members.spans(), config) else {
-            return self.place_apart(members, source);
+        let lines = match FewLines::of(source, members.outer.ends(), members.spans(), config) {
+            Ok(lines) => lines,
+            Err(outer) => return self.place_apart(members, source, outer),
         };
         let has_longer = members.outer.longest > lines.longest;
         let over = if has_longer { self.count_longer(members, lines.longest) } else { 0 };
@@ -196,12 +198,12 @@ impl<'a, S: Span> Lending<'a, S> {
 
     /// Moves the labels in a source to lines apart, and the header's place, if it is there. Returns what is lent.
     #[inline(never)]
-    fn place_apart<I: AsRef<str>>(&mut self, members: &Members, source: &Source<I>) -> Excerpt<'static> {
+    fn place_apart<I: AsRef<str>>(&mut self, members: &Members, source: &Source<I>, outer: Lines) -> Excerpt<'static> {
         let labels = members.of(&self.labels).map(|label| [label.start, last_of(label)]);
         let ends = labels.chain(members.place.map(|at| [at; 2])).collect();
         let mut spans = Spans { ends, has_place: members.place.is_some() };
         let config = self.config();
-        let (excerpt, shape) = Excerpt::of_lines_apart(source, &mut spans, &mut self.numbers, config);
+        let (excerpt, shape) = Excerpt::of_lines_apart(source, &mut spans, outer, &mut self.numbers, config);
         self.has_stand_ins |= excerpt.has_stand_ins();
         self.shape = self.shape.with(shape);
         for (label, [start, last]) in members.of_mut(self.labels.to_mut()).zip(spans.labels()) {
@@ -223,10 +225,44 @@ impl<'a, S: Span> Lending<'a, S> {
         if !self.has_stand_ins {
             return self.drawn(last, 0, room);
         }
+        let picture = match last.and_then(|last| self.drawn_by_a_mark(last, room)) {
+            Some(picture) => picture?,
+            None => self.drawn_twice(last, room)?,
+        };
+        Ok(room.hold(picture))
+    }
+
+    /// The picture over the last source, if it is the only one, with the lines' own numbers: it is drawn once, where
+    /// stand-ins have a mark.
+    fn drawn_by_a_mark(
+        &self,
+        (name, excerpt): (Option<usize>, &Excerpt<'_>),
+        room: &mut Room,
+    ) -> Option<Result<Vec<u8>, Refusal>> {
+        let content = &self.report.content;
+        let taken = excerpt.line_offsets[0] + 1;
+        // (Else the numbers of helps and notes have fewer digits than stand-ins.)
+        if !self.kept.is_empty() || content.helps.len().max(content.notes.len()) >= taken {
+            return None;
+        }
+        let mark = self.numbers.mark(taken, |digits| self.says(digits, excerpt))?;
+        let marked = Excerpt { text: Cow::Borrowed(&excerpt.text), line_offsets: [mark.first - 1; 2] };
+        let picture = self.drawn(Some((name, &marked)), 0, room);
+        Some(picture.map(|picture| self.numbers.put_for(&mark, taken, picture)))
+    }
+
+    /// Whether some digits are in a text of the report, in what is held or in what is lent of the last source.
+    fn says(&self, digits: &[u8], excerpt: &Excerpt<'_>) -> bool {
+        let has = |text: &str| place_of(digits, text.as_bytes()).is_some();
+        has(&excerpt.text) || has(&self.held.text()) || texts_of(&self.report.content, &self.report.labels).any(has)
+    }
+
+    /// The picture with the lines' own numbers, which stand where two pictures differ.
+    fn drawn_twice(&mut self, last: Last<'_, '_>, room: &mut Room) -> Result<Vec<u8>, Refusal> {
         let mut other = Room::new();
         let picture = self.drawn(last, 0, room)?;
-        let picture = self.numbers.put_into(picture, self.drawn(last, 1, &mut other)?);
-        Ok(room.hold(picture))
+        let beside = self.drawn(last, 1, &mut other)?;
+        Ok(self.numbers.put_into(picture, beside))
     }
 
     /// Leaves out the labels whose sources were not fetched, and numbers those that are kept one after another.
@@ -299,8 +335,9 @@ fn last_of(label: &GivenLabel<'_>) -> usize {
 
 #[cfg(test)]
 impl Report<'_> {
-    /// The picture over a source without a name that is lent so, in which these are the spans of labels and the place.
-    pub(crate) fn picture_over(&self, excerpt: Excerpt<'_>, spans: &Spans, numbers: Numbers) -> String {
+    /// The pictures over a source without a name that is lent so, in which these are the spans of labels and the place.
+    /// Where numbers have stand-ins it is drawn twice, and then by a mark if there is one.
+    pub(crate) fn pictures_over(&self, excerpt: Excerpt<'_>, spans: &Spans, numbers: Numbers) -> Vec<String> {
         let held = Held::for_sources(1);
         let mut lending = Lending::new(self, &held);
         for (label, [start, last]) in lending.labels.to_mut().iter_mut().zip(&spans.ends) {
@@ -309,10 +346,19 @@ impl Report<'_> {
         lending.place = (0, spans.ends[self.labels.len()][0]);
         (lending.sources, lending.placed) = (1, self.labels.len());
         lending.numbers = numbers;
-        lending.has_stand_ins = excerpt.has_stand_ins();
+        let last = (None, &excerpt);
         let mut room = Room::new();
-        let picture = lending.picture(Some((None, &excerpt)), &mut room);
-        String::from_utf8(picture.unwrap_or_else(|Refusal(status)| panic!("status {status}")).to_vec()).unwrap()
+        let pictures = if excerpt.has_stand_ins() {
+            let twice = lending.drawn_twice(Some(last), &mut room);
+            let by_a_mark = lending.drawn_by_a_mark(last, &mut room);
+            [twice].into_iter().chain(by_a_mark).collect()
+        } else {
+            vec![lending.picture(Some(last), &mut room).map(<[u8]>::to_vec)]
+        };
+        let text_of = |picture: Result<Vec<u8>, Refusal>| {
+            String::from_utf8(picture.unwrap_or_else(|Refusal(status)| panic!("status {status}"))).unwrap()
+        };
+        pictures.into_iter().map(text_of).collect()
     }
 }
 

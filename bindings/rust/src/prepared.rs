@@ -24,18 +24,16 @@ pub(crate) struct Prepared<'a> {
 
 impl<'a> Prepared<'a> {
     pub(crate) fn new<S: Span>(content: &'a Content<'_>, place: &S, labels: &'a [Label<S>]) -> Prepared<'a> {
-        let Content { code, message, helps, notes, .. } = content;
+        let Content { helps, notes, .. } = content;
         let mut given: Vec<GivenLabel<'a>> = labels.iter().map(label_without_source).collect();
         let members = members_of(labels, place, &mut given);
-        let messages = labels.iter().filter_map(|label| label.display_info.msg.as_ref());
-        let texts = code.iter().chain(message).chain(helps).chain(notes).chain(messages);
         Prepared {
             report: report_without_lists(content),
             helps: helps.iter().map(Text::from).collect(),
             notes: notes.iter().map(Text::from).collect(),
             labels: given,
             members,
-            said: texts.map(String::len).sum(),
+            said: texts_of(content, labels).map(str::len).sum(),
         }
     }
 
@@ -50,6 +48,14 @@ impl<'a> Prepared<'a> {
             ..self.report
         }
     }
+}
+
+/// The texts of a report: all that it says but for names and lines of sources.
+pub(crate) fn texts_of<'t, S>(content: &'t Content<'_>, labels: &'t [Label<S>]) -> impl Iterator<Item = &'t str> {
+    let Content { kind, code, message, helps, notes, .. } = content;
+    let messages = labels.iter().filter_map(|label| label.display_info.msg.as_ref());
+    let texts = code.iter().chain(message).chain(helps).chain(notes).chain(messages);
+    texts.map(String::as_str).chain([kind_of(*kind).1])
 }
 
 /// A report without labels, helps, notes and a place.

@@ -151,16 +151,15 @@ impl<I: AsRef<str>> Source<I> {
     }
 
     /// The number of the line that an offset is on, in bytes or in characters. One past the end is on the last.
-    /// It is looked for at the line `near` first.
+    /// It is looked for at the lines `near` first.
     #[inline]
-    pub(crate) fn line_number(&self, offset: usize, in_bytes: bool, near: usize) -> usize {
+    pub(crate) fn line_number<const N: usize>(&self, offset: usize, in_bytes: bool, near: [usize; N]) -> usize {
         let of = |start: &Start| if in_bytes { start.bytes } else { start.chars };
-        if let Some([start, next, behind @ ..]) = self.starts.get(near..) {
-            if of(start) <= offset && (offset < of(next) || behind.is_empty()) {
-                return near;
-            }
-        }
-        self.number_of(offset, of)
+        let has = |line: &usize| match self.starts.get(*line..) {
+            Some([start, next, behind @ ..]) => of(start) <= offset && (offset < of(next) || behind.is_empty()),
+            _ => false,
+        };
+        near.into_iter().find(has).unwrap_or_else(|| self.number_of(offset, of))
     }
 
     /// Where the first of these lines starts, and how long they are together, both in bytes or in characters,
@@ -179,6 +178,11 @@ impl<I: AsRef<str>> Source<I> {
     /// How many characters the lines between two have together. The first stands in front of the second.
     pub(crate) fn len_between(&self, line: usize, other: usize) -> usize {
         self.starts[other].chars - self.starts[line + 1].chars
+    }
+
+    /// How many bytes these lines have together.
+    pub(crate) fn bytes_of(&self, numbers: RangeInclusive<usize>) -> usize {
+        self.starts[numbers.end() + 1].bytes - self.starts[*numbers.start()].bytes
     }
 
     /// How many bytes the longest of these lines has.
