@@ -28,6 +28,10 @@ const FEW_LINES: usize = 2;
 /// Hidden lines for each span that have an empty one each. To read these takes less than to draw a second time.
 const FEW_HIDDEN_LINES: usize = 256;
 
+/// Spans of a report whose offsets in bytes are lent as offsets in characters. To count the characters in front of them
+/// takes less here than in the library, and of so many no more than to read their lines.
+const FEW_SPANS: usize = 16;
+
 /// What is lent of a source.
 pub(crate) struct Excerpt<'s> {
     pub(crate) text: Cow<'s, str>,
@@ -67,6 +71,8 @@ pub(crate) struct Spans {
     /// The labels' spans, and behind them the place that the header names, if it is in this source.
     pub(crate) ends: Vec<Ends>,
     pub(crate) has_place: bool,
+    /// Whether offsets in bytes may become offsets in characters, and then whether they did.
+    pub(crate) in_chars: bool,
 }
 
 impl Spans {
@@ -77,6 +83,14 @@ impl Spans {
     /// The header's place, as both ends.
     pub(crate) fn place(&self) -> Option<&Ends> {
         self.ends.last().filter(|_| self.has_place)
+    }
+
+    /// Whether the offsets, which are in bytes, can become offsets in characters: that of the place cuts none. (Where
+    /// numbers have stand-ins, no label does.)
+    fn can_be_in_chars<I: AsRef<str>>(&self, source: &Source<I>) -> bool {
+        self.in_chars
+            && self.ends.len() <= FEW_SPANS
+            && self.place().is_none_or(|[at, _]| source.text().is_char_boundary(*at))
     }
 }
 
@@ -224,6 +238,7 @@ impl Excerpt<'_> {
         let ends = ends_of(source, &spans.ends, outer, in_bytes);
         let runs = runs_of(&ends, config.context_lines, source.last_line());
         let stand_ins = stand_ins(source, spans, &runs, numbers, config);
+        spans.in_chars = in_bytes && stand_ins.is_some() && spans.can_be_in_chars(source);
         let mut lent = Lent::with_room(runs.iter().map(|run| source.bytes_of(run.first..=run.last) + 1).sum());
         let mut rest = ends.as_slice();
         for (at, run) in runs.iter().enumerate() {
@@ -310,10 +325,12 @@ impl Lent {
         spans: &mut Spans,
         in_bytes: bool,
     ) {
-        let (start, len, text) = source.lines_with_text(run.first..=run.last, in_bytes);
+        let (start, len, text) = source.lines_with_text(run.first..=run.last, in_bytes && !spans.in_chars);
         for End { line, last_line, span, sides } in ends {
             for side in sides.clone() {
-                spans.ends[*span][side] = self.len + (spans.ends[*span][side] - start);
+                let offset = spans.ends[*span][side];
+                let offset = if spans.in_chars { source.chars_before(offset, *line) } else { offset };
+                spans.ends[*span][side] = self.len + (offset - start);
             }
             self.shape.over += usize::from(line < last_line);
         }
@@ -341,7 +358,7 @@ mod tests {
 
     /// The spans of labels with these first and last characters, and no place of a header.
     fn labels(ends: &[[usize; 2]]) -> Spans {
-        Spans { ends: ends.to_vec(), has_place: false }
+        Spans { ends: ends.to_vec(), has_place: false, in_chars: false }
     }
 
     /// What is lent of lines apart.
@@ -374,7 +391,7 @@ mod tests {
         let config = report.content.config;
         let told = format!("{report:?} {:?} at {at}", report.labels);
         let ends = report.labels.iter().map(|label| ends_of(&label.span)).chain([[at; 2]]).collect();
-        let mut spans = Spans { ends, has_place: true };
+        let mut spans = Spans { ends, has_place: true, in_chars: false };
         let line_offsets = [source.display_line_offset(); 2];
         let whole = Excerpt { text: Cow::Borrowed(source.text()), line_offsets };
         let want = report.pictures_over(whole, &spans, Numbers::default()).remove(0);
@@ -382,6 +399,7 @@ mod tests {
         report.write(source, &mut out).unwrap();
         assert_eq!(String::from_utf8(out).unwrap(), want, "{told}");
         let mut numbers = Numbers::default();
+        spans.in_chars = true;
         let (apart, _) = Excerpt::of_lines_apart(source, &mut spans, [0; 2], &mut numbers, &config);
         let has_stand_ins = apart.has_stand_ins();
         let pictures = report.pictures_over(apart, &spans, numbers);
@@ -414,7 +432,7 @@ mod tests {
             assert_eq!(apart(&source, &mut labels(&[[0, 1]]), &config).text, first);
             assert_eq!(apart(&source, &mut labels(&[[0, 1], [12, 13]]), &config).text, both);
         }
-        let mut spans = Spans { ends: vec![[9, 9], [9, 9]], has_place: true };
+        let mut spans = Spans { ends: vec![[9, 9], [9, 9]], has_place: true, in_chars: false };
         let middle = apart(&source, &mut spans, &PLAIN.with_context_lines(1));
         assert_eq!((&*middle.text, middle.line_offsets), ("ef\ngh\nij\n", [2; 2]));
         assert_eq!(spans.ends, [[3, 3], [3, 3]]);
@@ -440,13 +458,29 @@ mod tests {
     fn one_line_stands_for_many() {
         let text = "z\n".repeat(1000) + "b\n" + &"z\n".repeat(1000);
         let source = Source::from(text.as_str()).with_display_line_offset(20);
-        let mut spans = Spans { ends: vec![[2, 2], [2000, 2000], [3990, 3990]], has_place: true };
+        let mut spans = Spans { ends: vec![[2, 2], [2000, 2000], [3990, 3990]], has_place: true, in_chars: true };
         let mut numbers = Numbers::default();
         let (excerpt, _) = Excerpt::of_lines_apart(&source, &mut spans, [0; 2], &mut numbers, &PLAIN);
         // (The numbers are 22, 1021 and 2016; those of labels have four digits at the most.)
         assert_eq!((&*excerpt.text, excerpt.line_offsets), ("z\n\x0cb\n\x0cz\n", [999, 3221]));
         assert_eq!(spans.ends, [[0, 0], [3, 3], [6, 6]]);
         assert_eq!(numbers.put_into(b" 1000\n 1002\n:1004 ", b" 3222\n 3224\n:3226 "), b"   22\n 1021\n:2016 ");
+    }
+
+    #[test]
+    fn offsets_in_bytes_become_offsets_in_characters() {
+        let source = Source::from("\u{e9}a\u{6f22}\n".repeat(3000) + "\u{e9}");
+        let config = PLAIN.with_index_type(IndexType::Byte);
+        let last = 7 * 3000;
+        for (place, in_chars) in [(0, true), (2, true), (1, false), (last, true), (last + 2, true), (last + 3, false)] {
+            let ends = vec![[0, 1], [2, 2], [3, 5], [5998, 5998], [last, last + 2], [place, place]];
+            let mut spans = Spans { ends, has_place: true, in_chars: true };
+            Excerpt::of_lines_apart(&source, &mut spans, [0; 2], &mut Numbers::default(), &config);
+            assert_eq!(spans.in_chars, in_chars, "{place}");
+            if in_chars {
+                assert_eq!(spans.ends[..5], [[0, 0], [1, 1], [2, 2], [8, 8], [10, 11]]);
+            }
+        }
     }
 
     #[test]

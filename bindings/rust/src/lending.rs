@@ -1,7 +1,7 @@
 //! What the library is lent of a report over sources.
 
 use crate::call::{draw, GivenLabel, GivenSource, OptionalText, Refusal, Room, Text};
-use crate::config::{CharSet, Config};
+use crate::config::{CharSet, Config, IndexType};
 use crate::excerpt::{Excerpt, FewLines, Lines, Shape, Spans};
 use crate::held::Held;
 use crate::members::Members;
@@ -41,6 +41,8 @@ pub(crate) struct Lending<'a, S: Span> {
     numbers: Numbers,
     /// Whether numbers of lines have stand-ins.
     has_stand_ins: bool,
+    /// Whether offsets in bytes are lent as offsets in characters.
+    in_chars: bool,
     shape: Shape,
 }
 
@@ -71,6 +73,7 @@ impl<'a, S: Span> Lending<'a, S> {
             missing: Vec::new(),
             numbers: Numbers::default(),
             has_stand_ins: false,
+            in_chars: false,
             shape: Shape::default(),
         }
     }
@@ -201,10 +204,12 @@ impl<'a, S: Span> Lending<'a, S> {
     fn place_apart<I: AsRef<str>>(&mut self, members: &Members, source: &Source<I>, outer: Lines) -> Excerpt<'static> {
         let labels = members.of(&self.labels).map(|label| [label.start, last_of(label)]);
         let ends = labels.chain(members.place.map(|at| [at; 2])).collect();
-        let mut spans = Spans { ends, has_place: members.place.is_some() };
+        let is_only = self.report.prepared().members.len() == 1;
+        let mut spans = Spans { ends, has_place: members.place.is_some(), in_chars: is_only };
         let config = self.config();
         let (excerpt, shape) = Excerpt::of_lines_apart(source, &mut spans, outer, &mut self.numbers, config);
         self.has_stand_ins |= excerpt.has_stand_ins();
+        self.in_chars = spans.in_chars;
         self.shape = self.shape.with(shape);
         for (label, [start, last]) in members.of_mut(self.labels.to_mut()).zip(spans.labels()) {
             let is_empty = label.start == label.end;
@@ -282,7 +287,10 @@ impl<'a, S: Span> Lending<'a, S> {
     /// A first or a second drawing.
     fn drawn<'p>(&self, last: Last<'_, '_>, turn: usize, room: &'p mut Room) -> Result<&'p [u8], Refusal> {
         let (source, start) = self.place;
-        let report = self.report.prepared().report(&self.labels, source, start);
+        let mut report = self.report.prepared().report(&self.labels, source, start);
+        if self.in_chars {
+            report.flags = self.config().with_index_type(IndexType::Char).flags();
+        }
         let held = self.held.text();
         match last {
             Some((name, excerpt)) if self.kept.is_empty() => {
@@ -345,7 +353,7 @@ impl Report<'_> {
         }
         lending.place = (0, spans.ends[self.labels.len()][0]);
         (lending.sources, lending.placed) = (1, self.labels.len());
-        lending.numbers = numbers;
+        (lending.numbers, lending.in_chars) = (numbers, spans.in_chars);
         let last = (None, &excerpt);
         let mut room = Room::new();
         let pictures = if excerpt.has_stand_ins() {

@@ -175,6 +175,13 @@ impl<I: AsRef<str>> Source<I> {
         }
     }
 
+    /// How many characters stand in front of the one that has this byte, which is its first or its last, on this line.
+    pub(crate) fn chars_before(&self, byte_offset: usize, line: usize) -> usize {
+        let (start, text) = (self.starts[line], self.text());
+        let inside = usize::from(!text.is_char_boundary(byte_offset));
+        start.chars + text[start.bytes..byte_offset + inside].chars().count() - inside
+    }
+
     /// How many characters the lines between two have together. The first stands in front of the second.
     pub(crate) fn len_between(&self, line: usize, other: usize) -> usize {
         self.starts[other].chars - self.starts[line + 1].chars
