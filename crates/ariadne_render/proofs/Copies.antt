@@ -1,6 +1,7 @@
 -- A text that is repeated: once more, in two parts, and cut behind some of its copies.
-use Rattle.std.proofs.Common.{◌≡◌, ℕ, zero, suc, ◌+◌, ◌-◌, ◌*◌, ◌≤◌, List, [], ◌∷◌, ◌++◌, replicate, length, take, refl, sym, ap, subst, ◌∙◌, arith}
+use Rattle.std.proofs.Common.{◌≡◌, ℕ, zero, suc, ◌+◌, ◌-◌, ◌*◌, ◌/◌, ◌<◌, ◌≤◌, List, [], ◌∷◌, ◌++◌, replicate, length, take, refl, sym, ap, subst, ◌∙◌, arith}
 use Rattle.std.proofs.Common.{append_assoc, length-append}
+use Rattle.std.proofs.Math.Nat.{mul-div_cancel_left}
 use Rattle.std.proofs.Math.Seq.{take-append_seam}
 use Rattle.std.specs.Str.{IsUtf8, IsCharBoundary}
 use Rattle.std.proofs.lemmas.List.{append-nil, replicate_more}
@@ -42,6 +43,10 @@ length-repeated (suc n) text =
     let e : suc n ≡ n + 1 = omega arith in
     ap (λ k. length (repeated k text)) e ∙ ap length (repeated_more n text)
     ∙ length-append (repeated n text) text ∙ ap (λ k. k + length text) (length-repeated n text) ∙ omega arith
+
+-- one of n copies is as long as the n-th part of all
+pub length-copy : (n : ℕ) (text many : List ℕ) → many ≡ repeated n text → 0 < n → length many / n ≡ length text
+length-copy n text many e h = ap (λ t. length t / n) e ∙ ap (λ k. k / n) (length-repeated n text) ∙ mul-div_cancel_left (length text) h
 
 -- the first k copies of n
 pub take-repeated : (k n : ℕ) (text : List ℕ) → k ≤ n → take (k * length text) (repeated n text) ≡ repeated k text

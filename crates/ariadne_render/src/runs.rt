@@ -6,15 +6,20 @@ ghost use Rattle.ariadne_picture.specs.Pieces.{repeated, spaces};
 use std::alloc::AllocError;
 
 /// How many copies of a character each of the texts below holds.
-const COPIES: usize = 64;
-/// Blanks.
-const BLANKS: &str = "                                                                ";
+const COPIES: usize = 128;
+/// Blanks. The second half begins with `\x20`, since blanks at the beginning of a line behind `\` are
+/// no part of a text.
+const BLANKS: &str = "                                                                \
+                      \x20                                                               ";
 /// Horizontals in ASCII.
-const DASHES: &str = "----------------------------------------------------------------";
+const DASHES: &str = "----------------------------------------------------------------\
+                      ----------------------------------------------------------------";
 /// Underlines in ASCII.
-const CARETS: &str = "^^^^^^^^^^^^^^^^^^^^^^^^^^^^^^^^^^^^^^^^^^^^^^^^^^^^^^^^^^^^^^^^";
+const CARETS: &str = "^^^^^^^^^^^^^^^^^^^^^^^^^^^^^^^^^^^^^^^^^^^^^^^^^^^^^^^^^^^^^^^^\
+                      ^^^^^^^^^^^^^^^^^^^^^^^^^^^^^^^^^^^^^^^^^^^^^^^^^^^^^^^^^^^^^^^^";
 /// Horizontals and underlines as box drawing characters.
-const LINES: &str = "────────────────────────────────────────────────────────────────";
+const LINES: &str = "────────────────────────────────────────────────────────────────\
+                     ────────────────────────────────────────────────────────────────";
 
 /// Appends `count` blanks.
 pub(crate) fn push_spaces(out: &mut String, count: usize) -> Result<(), AllocError>
@@ -33,15 +38,16 @@ pub(crate) fn push_repeated(out: &mut String, c: char, count: usize) -> Result<(
     let Some(many) = copies_of(c) else {
         return push_one_by_one(out, c, count);
     };
+    let size = many.len() / COPIES;
     let mut left = count;
     while left > COPIES {
         out.push_str(many)?;
         left -= COPIES;
     }
-    out.push_str(&many[..left * c.len_utf8()])
+    out.push_str(&many[..left * size])
 }
 
-/// The text that holds 64 copies of a character, if the character stands in long runs.
+/// The text that holds 128 copies of a character, if the character stands in long runs.
 #[inline(always)]
 fn copies_of(c: char) -> Option<&'static str>
     ensures { IfSome result (λ many. many.now ≡ repeated COPIES (encode_utf8 c)) }
