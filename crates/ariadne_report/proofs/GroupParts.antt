@@ -14,7 +14,6 @@ use Rattle.ariadne_picture.specs.Accept.{IsAccepted}
 use Rattle.ariadne_picture.specs.Canvas.{group_id, group_source, header_offset, section_of, texts_of}
 use Rattle.ariadne_picture.specs.Pieces.{Texts}
 use Rattle.ariadne_picture.specs.Report.{ConfigFields, LabelFields, ReportFields, World, switches_of}
-use Rattle.ariadne_picture.specs.Rows.{rows}
 use Rattle.ariadne_picture.proofs.Labels.DrawnLabels.{offset-order}
 use Rattle.ariadne_layout.specs.Snippets.{snippet_of}
 use Rattle.ariadne_report.specs.CacheReads.{AreDrawn}

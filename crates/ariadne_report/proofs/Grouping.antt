@@ -9,7 +9,6 @@ use Rattle.std.proofs.lemmas.List.Folds.{drop_split}
 use Rattle.std.proofs.Math.ListN.{length-drop}
 use Rattle.std.proofs.Math.Seq.{drop-cons, take-suc}
 use Rattle.std.specs.List.{slice_range, AllByRecursion}
-use Rattle.ariadne_picture.specs.Canvas.{groups}
 use Rattle.ariadne_picture.specs.Canvas.{same_source}
 use Rattle.ariadne_picture.specs.Groups.{ordered}
 use Rattle.ariadne_picture.specs.Groups.{ahead, groups_of, is_cut, HasNoCut, AreCut}

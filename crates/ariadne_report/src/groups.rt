@@ -15,6 +15,7 @@ use ariadne_layout::digits::decimal_len;
 use ariadne_layout::order::{ByOrder, put_in_order};
 use ariadne_layout::snippet::{last_line, number_of_lines};
 use ariadne_picture::label_info::LabelInfo;
+use smallvec::SmallVec;
 use std::alloc::{AllocError, Global};
 
 /// The labels in the order in which they are drawn.
@@ -26,11 +27,12 @@ pub fn in_order(alloc: Global, infos: Vec<LabelInfo>) -> Result<Vec<LabelInfo>, 
     Ok(infos)
 }
 
-/// The groups of labels in order, from top to bottom. On `Err` there was no memory for them.
+/// The groups of labels in order, from top to bottom. One group takes no memory; on `Err` there was
+/// none for several.
 pub fn cut_groups<'a, S: Span>(
     report: &ReportData<'_, S>,
     infos: &'a [LabelInfo],
-) -> Result<Vec<&'a [LabelInfo]>, AllocError>
+) -> Result<SmallVec<&'a [LabelInfo], 1>, AllocError>
     requires there { AreThere report.now infos.now }
     ensures { (names : S.SourceId → Option (List ℕ))
         (contents : List (S.SourceId × Listing)) →
@@ -38,7 +40,7 @@ pub fn cut_groups<'a, S: Span>(
         report.now in
         IfOk result (λ groups. map (λ g. g.now) groups.items ≡ groups_of same infos.now) }
 {
-    let mut groups = Vec::new(report.alloc);
+    let mut groups = SmallVec::new(report.alloc);
     let mut start = 0;
     while start < infos.len() {
         let end = group_end(report, infos, start);

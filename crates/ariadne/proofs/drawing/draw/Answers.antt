@@ -40,7 +40,7 @@ are_cut g c =
     (g.C.Cache.contents c.args.cache.now) in
     let r = c.args.report.now in
     let cut = c.in_ok-cut.ensures (g.C.Cache.names c.args.cache.now) (g.C.Cache.contents c.args.cache.now) in
-    ap (map (λ (x : Bor (List LabelInfo)). x.now)) c.as_slice-groups.ensures.value ∙ cut
+    ap (map (λ (x : Bor (List LabelInfo)). x.now)) c.as_slice-groups.ensures ∙ cut
     ∙ ap (groups_of (same_source w r)) (c.deref.ensures.value ∙ c.in_ok-sorted.ensures)
 
 -- so they are groups of labels that are drawn

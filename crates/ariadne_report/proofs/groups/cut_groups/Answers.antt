@@ -13,7 +13,7 @@ loop-start-preserved g c = record {
       let now = λ (x : Bor (List LabelInfo)). x.now in
       one_cut _ c.args.infos.now c.loop-start.start c.group_end-end.result (map now c.loop-start.groups.items) (map now c.push.new.self.items)
       (c.group_end-end.ensures.groups names contents)
-      (ap (map now) c.in_ok-push.ensures.items ∙ map-append now c.loop-start.groups.items _) (c.loop-start.invariant.cut names contents);
+      (ap (map now) c.in_ok-push.ensures.ok ∙ map-append now c.loop-start.groups.items _) (c.loop-start.invariant.cut names contents);
 }
 
 -- no label is left

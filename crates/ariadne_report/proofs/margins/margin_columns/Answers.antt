@@ -29,7 +29,7 @@ most_before_text-requires g c =
     let r = c.args.report.now in
     let cut = c.in_ok-groups.ensures (g.C.Cache.names c.args.cache.now) (g.C.Cache.contents c.args.cache.now) in
     let are : map (λ (x : Bor (List LabelInfo)). x.now) c.deref-2.result.now ≡ groups_of (same_source w r) c.deref.result.now =
-    ap (map (λ (x : Bor (List LabelInfo)). x.now)) c.deref-2.ensures.value ∙ cut in
+    ap (map (λ (x : Bor (List LabelInfo)). x.now)) c.deref-2.ensures ∙ cut in
     let sorted = c.deref.ensures.value ∙ c.in_ok-sorted.ensures in
     let drawn = sorted_drawn w r c.args.infos.items c.deref.result.now sorted c.requires.drawn in
     record { groups = sorted_groups w r c.deref.result.now _ are drawn }
@@ -43,6 +43,6 @@ returns g c =
     let r = c.args.report.now in
     let cut = c.in_ok-groups.ensures (g.C.Cache.names c.args.cache.now) (g.C.Cache.contents c.args.cache.now) in
     let are : map (λ (x : Bor (List LabelInfo)). x.now) c.deref-2.result.now ≡ groups_of (same_source w r) c.deref.result.now =
-    ap (map (λ (x : Bor (List LabelInfo)). x.now)) c.deref-2.ensures.value ∙ cut in
+    ap (map (λ (x : Bor (List LabelInfo)). x.now)) c.deref-2.ensures ∙ cut in
     c.most_before_text.ensures
     ∙ ap (most_before_text w r) (are ∙ ap (groups_of (same_source w r)) (c.deref.ensures.value ∙ c.in_ok-sorted.ensures))
