@@ -3,14 +3,14 @@
 An edit is a file in the form that `rt` reads, with one line more or two, which it passes over:
 
     # by: MODULE::TYPE::FUNCTION   the function whose proof refuses it, as the prover names it below the crate
-    # with: FUNCTION ..            functions that it calls, without whose bodies its proof file is not read; or no line
+    # with: FUNCTION ..            functions that it calls, without whose bodies its goals are not tried; or no line
     file: src/lines.rt
     old: column.saturating_add(1)  stands once in that file, in the body of this function or outside of all bodies
     new: column
 
 A function is proved from its own body and from the contracts of what it calls. So a copy has the bodies of
-the functions alone that its edits name, and the proof of the others is not paid for. But a proof file is read
-only where those of the functions that it calls can be, and one that names steps can't without their body.
+the functions alone that its edits name, and the proof of the others is not paid for. Nor has it their proof files,
+which name steps of these bodies: a proof file is read only where those of the functions that it calls can be.
 """
 
 import re
@@ -19,8 +19,12 @@ from typing import NamedTuple
 
 LINE = re.compile(r"^(# by|# with|file|old|new): ?(.*)$", re.M)
 FUNCTION = re.compile(r"^( *)(?:pub(?:\([a-z ]+\))? )?(?:final )?(?:const )?(?:unsafe )?fn (\w+)")
+TRAIT = re.compile(r"(?:pub(?:\([a-z ]+\))? )?trait (\w+)")
+IMPL = re.compile(r"(?:unsafe )?impl\b")
+HEAD = 12  # lines that the head of an impl may take
 LEFT_OUT = "unreachable!()"  # stands for a body that a copy doesn't have, whatever the function returns
 PARTS = ("src", "specs", "proofs")
+PROOFS = ("Answers.antt", "Invariants.antt", "Proof.antt")  # of a function, in a folder of its name
 
 
 class BadEdit(ValueError):
@@ -39,6 +43,15 @@ class Edit(NamedTuple):
     def function(self):
         """The name of the function alone."""
         return self.by.rpartition("::")[2]
+
+    def key(self):
+        """The function as `functions` tells it: its type, or nothing, and its name."""
+        owner = self.by.split("::")[-2:-1]
+        return owner[0] if owner and owner[0][0].isupper() else "", self.function()
+
+    def keys(self):
+        """The functions that have a body for it, each as `key`; those beside of any type."""
+        return {self.key(), *((None, name) for name in self.beside)}
 
 
 def read_edit(name, text):
@@ -84,30 +97,62 @@ def made(edit, texts):
 # ---- bodies
 
 
-def without_bodies(text, kept=()):
-    """A text in which the functions have no body but those with one of these names. (It has to be laid out as
+def without_bodies(text, kept=frozenset()):
+    """A text in which the functions have no body but those that are among these keys. (It has to be laid out as
     `rt fmt` does: a body ends at the indentation of its function.)"""
-    lines, at, left = text.split("\n"), 0, []
+    lines, left, behind = text.split("\n"), [], 0
+    for owner, head, at, opening, end in functions(lines):
+        if opening < end and not is_kept(owner, head[2], kept):
+            left += [*lines[behind : opening + 1], f"{head[1]}    {LEFT_OUT}", lines[end]]
+            behind = end + 1
+    return "\n".join(left + lines[behind:])
+
+
+def functions(lines):
+    """The functions of a text: the type that each is of, or nothing; its head; and the lines of its head, and where
+    its body begins and ends. What is of a trait has the type's name and the trait's behind it."""
+    owner, at = "", 0
     while at < len(lines):
         head = FUNCTION.match(lines[at])
-        opening, end = body_of(lines, at, head[1]) if head else (at, at)
-        if head and opening < end and head[2] not in kept:
-            left += [*lines[at : opening + 1], f"{head[1]}    {LEFT_OUT}", lines[end]]
-        else:
-            left += lines[at : end + 1]
-        at = end + 1
-    return "\n".join(left)
+        if IMPL.match(lines[at]) or TRAIT.match(lines[at]):
+            owner = owner_of(" ".join(lines[at : at + HEAD]).partition("{")[0])
+        elif lines[at] == "}":
+            owner = ""
+        elif head:
+            opening, end = body_of(lines, at, head[1])
+            yield owner if head[1] else "", head, at, opening, end
+            at = end
+        at += 1
+
+
+def owner_of(head):
+    """The name by which the prover tells the functions of an impl, or of a trait, as far as its head says it."""
+    if TRAIT.match(head):
+        return TRAIT.match(head)[1]
+    plain = re.sub(r"'\w+ |&|->", "", head.partition("impl")[2])
+    while plain != (plain := re.sub(r"<[^<>]*>", "", plain)):
+        pass
+    trait, is_of_trait, name = plain.partition(" where ")[0].rpartition(" for ")
+    name, trait = (it.strip().rpartition("::")[2] for it in (name, trait))
+    return (name if len(name) > 1 else "Any") + trait if is_of_trait else name
+
+
+def is_kept(owner, name, kept):
+    """Whether a function is among these keys. (The prover tells some arguments of a trait behind its name.)"""
+    return any(name == other and (of is None or of == owner or owner and of.startswith(owner)) for of, other in kept)
 
 
 def body_of(lines, at, indent):
     """The lines in which the body of a function begins and ends, or twice its last where it has none, or an
     empty one."""
+    depth = 0
     for opening in range(at, len(lines)):
         line = lines[opening]
         is_outer = opening == at or re.match(rf"{indent}\S", line)
+        depth += line.count("{") - line.count("}")
         if is_outer and line.endswith("{"):
             return opening, lines.index(indent + "}", opening)
-        if line.endswith(";") or is_outer and line.endswith("}"):
+        if depth == 0 and (line.endswith(";") or is_outer and line.endswith("}")):
             return opening, opening
     return at, at
 
@@ -139,7 +184,7 @@ def copies_of(edits, texts):
 
 def go_together(edits, texts):
     """Whether one copy can have these edits: each is of another function, and none writes what another one replaces."""
-    if len({edit.function() for edit in edits}) < len(edits):
+    if len({edit.by for edit in edits}) < len(edits):
         return False
     try:
         for edit in edits:
@@ -151,21 +196,28 @@ def go_together(edits, texts):
 
 def copied(edits, texts, are_made=True):
     """The texts of a copy that has these edits, of which each has to be seen there, or of the copy without them."""
-    kept = {edit.function() for edit in edits}
+    kept = {edit.key() for edit in edits}
     for edit in edits:
         changed = made(edit, texts)
         if all(without_bodies(changed[file], kept) == without_bodies(texts[file], kept) for file in texts):
             raise BadEdit(f"it stands in the body of another function than {edit.by}")
     for edit in edits if are_made else []:
         texts = made(edit, texts)
-    kept.update(*(edit.beside for edit in edits))
+    kept.update(*(edit.keys() for edit in edits))
     return {file: without_bodies(text, kept) for file, text in texts.items()}
 
 
-def copy_crate(folder, place, texts):
-    """Makes the copy of a crate with these texts of its code."""
+def copy_crate(folder, place, texts, edits):
+    """Makes the copy of a crate with these texts of its code, and the proof files of what these edits name."""
     for part in PARTS:
         if (folder / part).is_dir():
             shutil.copytree(folder / part, place / part)
     for file, text in texts.items():
         (place / file).write_text(text)
+    own = {edit.by.replace("::", "/") for edit in edits}
+    beside = {name for edit in edits for name in edit.beside}
+    for path in [it for it in (place / "proofs").rglob("*.antt") if it.name in PROOFS]:
+        name = path.parent.name
+        # (the file of functions that call one another has a name of its own)
+        if not (name in beside or name.startswith("+") or str(path.parent.relative_to(place / "proofs")) in own):
+            path.unlink()
