@@ -13,10 +13,42 @@ use ariadne_base::{Cache, Span};
 use ariadne_layout::snippet::Snippet;
 use ariadne_picture::label_info::LabelInfo;
 use ariadne_picture::texts::Texts;
+use smallvec::SmallVec;
 use std::alloc::AllocError;
 
-/// The messages of a report's labels, by position. On `Err` there was no memory for them.
-pub fn messages<'a, S: Span>(report: &'a ReportData<'_, S>) -> Result<Vec<&'a str>, AllocError>
+/// How many messages take no memory.
+const FEW: usize = 4;
+
+/// The messages of a report's labels, by position. A few take no memory; on `Err` there was none for more.
+pub fn messages<'a, S: Span>(
+    report: &'a ReportData<'_, S>,
+) -> Result<SmallVec<&'a str, FEW>, AllocError>
+    ensures { IfOk result
+        (λ messages. map (λ m. m.now) messages.items ≡ (texts_of report.now).messages) }
+{
+    if report.labels.len() <= FEW {
+        return few_messages(report);
+    }
+    let messages = many_messages(report)?;
+    Ok(SmallVec::from_vec(messages))
+}
+
+/// The messages in place, as long as they are a few.
+fn few_messages<'a, S: Span>(
+    report: &'a ReportData<'_, S>,
+) -> Result<SmallVec<&'a str, FEW>, AllocError>
+    ensures { IfOk result
+        (λ messages. map (λ m. m.now) messages.items ≡ (texts_of report.now).messages) }
+{
+    let mut messages = SmallVec::with_capacity(report.alloc, report.labels.len())?;
+    for label in &report.labels {
+        messages.push_reserved(label.message().unwrap_or(""));
+    }
+    Ok(messages)
+}
+
+/// The messages in a list, to which one is added in fewer steps.
+fn many_messages<'a, S: Span>(report: &'a ReportData<'_, S>) -> Result<Vec<&'a str>, AllocError>
     ensures { IfOk result
         (λ messages. map (λ m. m.now) messages.items ≡ (texts_of report.now).messages) }
 {

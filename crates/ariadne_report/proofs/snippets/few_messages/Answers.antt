@@ -1,11 +1,12 @@
 -- The messages so far, and one more.
 use Rattle.std.proofs.Common.{◌∙◌, ◌≡◌, ◌≤◌, ◌++◌, ◌∷◌, [], List, ap, arith, length, map, sym, Bor}
 use Rattle.std.specs.Prelude.{Option, unwrap_or}
-use Rattle.std.proofs.lemmas.List.{map-append, map_more, take_all}
+use Rattle.std.proofs.Math.Nat.{le-max_right}
+use Rattle.std.proofs.lemmas.List.{length-append, map-append, map_more, take_all}
 use Rattle.ariadne_picture.specs.Canvas.{texts_of}
 use Rattle.ariadne_picture.specs.Report.{LabelFields, ReportFields}
 use Rattle.ariadne_report.proofs.GroupParts.{copied_or}
-use Rattle.ariadne_report.proofs.snippets.messages.Goals as goal
+use Rattle.ariadne_report.proofs.snippets.few_messages.Goals as goal
 
 -- there is room for all
 pub loop-label-init : goal.loop-label-init
@@ -13,8 +14,8 @@ loop-label-init g c =
     let items : length c.deref-label-items.result.now ≡ length c.report.inside.labels.items = ap length c.deref-label-items.ensures.value in
     record {
       told = ap (map (λ (m : Bor (List _)). m.now)) c.in_ok-messages.ensures.items;
-      len = c.in_ok-messages.ensures.len;
-      room = omega (arith, items, c.len.ensures, c.report.inside.labels.ok.0, c.in_ok-messages.ensures.capacity);
+      len = ap length c.in_ok-messages.ensures.items;
+      room = omega (arith, items, c.len.ensures, c.report.inside.labels.ok.0, c.in_ok-messages.ensures.capacity, le-max_right 4 c.len.result);
     }
 
 -- one more
@@ -28,7 +29,7 @@ loop-label-preserved g c =
     record {
       told = ap (map text) c.push_reserved.ensures.items ∙ map-append text c.loop-label.messages.items (c.unwrap_or.result ∷ [])
           ∙ (λ j. c.loop-label.invariant.told j ++ shown j ∷ []) ∙ sym more;
-      len = omega (arith, c.push_reserved.ensures.len, c.loop-label.invariant.len);
+      len = omega (arith, ap length c.push_reserved.ensures.items, length-append c.loop-label.messages.items (c.unwrap_or.result ∷ []), c.loop-label.invariant.len);
       room = omega (arith, c.push_reserved.ensures.capacity, c.loop-label.invariant.room);
     }
 
