@@ -32,8 +32,8 @@ STATUS = {
     "io::Result<ExitCode>": "{}",
     "io::Result<()>": "{}.map(|()| ExitCode::SUCCESS)",
 }
-# What stands for the status of a test, which returns nothing, or a result.
-ENDED = ("{{ {}; ExitCode::SUCCESS }}", "match {} {{ Ok(()) => ExitCode::SUCCESS, Err(_) => ExitCode::FAILURE }}")
+# What stands for the status of a test, which returns what a `main` may.
+ENDED = "std::process::Termination::report({}, &host)"
 PROGRAM = """\
 //! Programs and tests of several crates.
 #![tactic(auto)]
@@ -88,9 +88,9 @@ def tests_of(root, crate):
     source = root / "crates" / crate / "src"
     for path in sorted(source.rglob("*.rt")):
         modules = [it for it in path.relative_to(source).with_suffix("").parts if it not in ("lib", "main")]
-        for name, _, result, _ in TEST.findall(path.read_text()):
+        for name, _, _, _ in TEST.findall(path.read_text()):
             test = "::".join([*modules, name])
-            yield test, ENDED[bool(result)].format(f"of_{crate}::{test}(rt, host)")
+            yield test, ENDED.format(f"of_{crate}::{test}(rt, host)")
 
 
 def function_of(test):

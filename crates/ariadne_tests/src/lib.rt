@@ -1,7 +1,7 @@
-//! Tests of reports by the library's public names alone: of the calls that make a report, of the laws,
-//! of caches and their sources, and of safe texts. The examples of README.md and docs/SAFE.md draw their
-//! pictures. The greatest numbers are tried, and what stands where memory is refused, and where a writer
-//! or a sink fails. `ariadne_text_tests` has the tests of what stands below a report.
+//! Tests of the library by its public names alone: of the calls that make a report, of the laws, of caches and their
+//! sources, and of safe texts. The examples of README.md and docs/SAFE.md draw their pictures. The greatest numbers are
+//! tried, and what stands where memory is refused, and where a writer or a sink fails. Of what stands below a report
+//! there are characters, lines and spans of a source, painted and visible texts, and edits of a source.
 //! Pictures are stored cases of `ariadne_replay`, or reckoned by `tools/try-reckoned`.
 #![tactic(auto)]
 
@@ -12,9 +12,13 @@ mod builders;
 #[cfg(test)]
 mod caches;
 #[cfg(test)]
+mod characters;
+#[cfg(test)]
 mod comparing;
 #[cfg(test)]
 mod configs;
+#[cfg(test)]
+mod edits;
 #[cfg(test)]
 mod example;
 #[cfg(test)]
@@ -34,6 +38,8 @@ mod margins;
 #[cfg(test)]
 mod own_caches;
 #[cfg(test)]
+mod painting;
+#[cfg(test)]
 mod readers;
 #[cfg(test)]
 mod readme;
@@ -51,5 +57,9 @@ mod refused_sources;
 mod safe_example;
 #[cfg(test)]
 mod safe_texts;
+#[cfg(test)]
+mod texts;
+#[cfg(test)]
+mod visible_texts;
 #[cfg(test)]
 mod writers;

@@ -200,8 +200,6 @@ pub(crate) const CALLS: &[(&str, &[&str])] = &[
             "change",
             "change_text",
             "copied_text",
-            "all_text",
-            "value_text",
             "Diagnostic::new",
             // Which lines belong to a diagnostic.
             "Known::take_row",
@@ -268,6 +266,34 @@ pub(crate) const CALLS: &[(&str, &[&str])] = &[
     (
         "a_refused_request_of_the_environment_or_an_input_is_told",
         &["Environment::of", "Inputs::read", "Fault::unread_file"],
+    ),
+    (
+        "a_refused_request_of_matched_lines_is_told",
+        &[
+            "LineReader::follow",
+            "LineReader::is_told_by",
+            "LineReader::new",
+            "LineReader::told",
+            "LineReader::told_again",
+            "MatchedInput::new",
+            "MatchedInput::read",
+            "Matchers::fit",
+            "Matchers::has_entries",
+            "Matchers::measured",
+            "Matchers::new",
+            "Reader::diagnostic",
+            "Reader::fit",
+            "Reader::new",
+            "Table::add",
+            "TextFiles::follow",
+            "TextFiles::has",
+            "TextFiles::new",
+            "TextFiles::report",
+            "Waiting::new",
+            "handed_over",
+            "report_line",
+            "texts_of",
+        ],
     ),
 ];
 
