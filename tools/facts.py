@@ -6,6 +6,7 @@ counts: a convention of the interface, or a fact of another program; and some ar
 """
 
 import re
+import tomllib
 from functools import cache
 from typing import NamedTuple
 
@@ -317,6 +318,12 @@ def of_safe():
     yield "`a` and a {} U+0301", {"1000": "thousand"}[found(TRY_SAFE, r'"\\u0301" \* (\d+)')]
 
 
+def tools_of_matchers():
+    """The tools of the table of matchers."""
+    matchers = tomllib.loads(text_of("crates/ariadne_matcher_tables/data/matchers.toml"))["matcher"]
+    return {tool for it in matchers for tool in (it["tool"] if isinstance(it["tool"], list) else [it["tool"]])}
+
+
 def of_show():
     kinds, wrapping = "crates/ariadne_parse/src/kinds.rt", "crates/ariadne_show/src/wrapping.rt"
     byte = str(2 ** int(found("crates/ariadne_parse/src/colors.rt", r"Option<u(\d+)>")) - 1)
@@ -337,6 +344,7 @@ def of_show():
     shift = found("crates/ariadne_documents/src/document.rt", r"MOST_BYTES: usize = 1 << (\d+);")
     yield "A document has at most {} MB", str(2 ** (int(shift) - 20))
     yield "| any program | SARIF {} |", found("crates/ariadne_outputs/src/sarif.rt", r'\\"version\\":\\"([\d.]+)\\"')
+    yield "| {} tools | the forms of a table |", str(len(tools_of_matchers()))
     yield "one SARIF {} log", found("crates/ariadne_outputs/src/sarif.rt", r'\\"version\\":\\"([\d.]+)\\"')
     yield "come first, {} columns here, and the remaining {} are for the text", *cut_columns()
     yield "into rows of {} columns less", found(wrapping, r"const NAME: usize = (\d+);")

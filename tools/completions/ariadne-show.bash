@@ -14,10 +14,11 @@ _ariadne_show() {
         --fail-on) words='error warning never' ;;
         --width) words='auto full' ;;
         --base) COMPREPLY=($(compgen -d -- "$word")); return ;;
-        --max|--context) return ;;
+        --matcher) COMPREPLY=($(compgen -f -- "$word")); return ;;
+        --max|--context|--tool) return ;;
         *)
-            words='--format --columns --first-column --base --output --severity --max --context --width --raw --color
-                --ascii --compact --short --fail-on --help --version'
+            words='--format --columns --first-column --tool --matcher --base --output --severity --max --context --width --raw
+                --color --ascii --compact --short --fail-on --help --version'
             [[ $word = -* ]] || { COMPREPLY=($(compgen -f -- "$word")); return; }
             ;;
     esac

@@ -109,6 +109,8 @@ others =
     ∷ number_rule (codes "max")
     ∷ typed_rule (codes "width") parser.NonEmptyString
     ∷ typed_rule (codes "base") parser.NonEmptyString
+    ∷ typed_rule (codes "tool") parser.NonEmptyString
+    ∷ typed_rule (codes "matcher") parser.NonEmptyString
     ∷ inputs_rule
     ∷ []
 

@@ -141,6 +141,8 @@ pub record AreOptionsOf (rows : List Row) (options : Options) : Type 0 where
   pub limit : IsNumberIn (one_of (codes "max") rows) options.limit
   pub fail_on : options.fail_on ≡ fail_on_of (value rows (codes "fail-on"))
   pub base : option_map (λ folder. folder.now) options.base ≡ value rows (codes "base")
+  pub tool : option_map (λ name. name.now) options.tool ≡ value rows (codes "tool")
+  pub matcher : option_map (λ path. path.now) options.matcher ≡ value rows (codes "matcher")
 
 -- the name of an input, if it is not standard input, which is named `-`
 abbrev pub input_path : Input → Option (List ℕ)

@@ -41,6 +41,8 @@ pub fn options_of<'a>(matches: &ArgMatches<'a>, width: Width) -> Options<'a>
         limit: number_of(matches, "max"),
         fail_on: fail_on_of(value_of(matches, "fail-on")),
         base: value_of(matches, "base"),
+        tool: value_of(matches, "tool"),
+        matcher: value_of(matches, "matcher"),
     }
 }
 

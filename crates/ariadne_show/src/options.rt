@@ -87,6 +87,10 @@ pub struct Options<'a> {
     /// `--base`: the folder in which files are looked for, and which no file that is read may lie
     /// outside of.
     pub base: Option<&'a str>,
+    /// `--tool`: the tool whose lines alone are read by matchers.
+    pub tool: Option<&'a str>,
+    /// `--matcher`: the file with people's own matchers.
+    pub matcher: Option<&'a str>,
 }
 
 /// Where diagnostics are read from.

@@ -32,6 +32,8 @@ Input:
       utf16    units of UTF-16, as in JavaScript and in editors
       display  columns of a terminal, with tabs of 8, as in gcc
   --first-column N  the number of the first column of a line there: 1, the default, or 0
+  --tool NAME       reads lines only as output of this tool: docs/SHOW.md lists the tools
+  --matcher FILE    reads lines by the matchers in FILE too: docs/SHOW.md describes them
   --base DIR        looks for files in DIR, and reads no file outside of DIR
 
 Output:

@@ -101,6 +101,8 @@ fn command<'a>(alloc: Global) -> Result<Command<'a>, AllocError>
         .arg(number(alloc, "max"))?
         .arg(text(alloc, "width", "N"))?
         .arg(text(alloc, "base", "DIR"))?
+        .arg(text(alloc, "tool", "NAME"))?
+        .arg(text(alloc, "matcher", "FILE"))?
         .arg(inputs(alloc))
 }
 

@@ -2,12 +2,13 @@
 #![tactic(auto)]
 
 use ariadne::RetryInterrupted;
+use ariadne_matching::{MatchedInput, matchers_of, options_behind, own_table};
 use ariadne_show::{
     Environment, Fault, Input, Inputs, Options, Request, Status, Streams, read_words, show,
     show_page, tell_fault,
 };
 use std::env;
-use std::io::{BufReader, IsTerminal};
+use std::io::{BufReader, IsTerminal, Read, Stdin};
 use std::process::ExitCode;
 use std::rt::Env;
 
@@ -19,28 +20,62 @@ fn given_words<R: Env + AllocGlobal>(rt: &R) -> Result<Vec<String>, Fault> {
     }
 }
 
-/// Shows what inputs tell, as the options ask for.
-fn show_inputs(
-    rt: &HostRuntime,
-    mut options: Options<'_>,
-    inputs: &[Input<'_>],
-) -> Result<Status, Fault> {
+/// What reads an input by larger pieces.
+fn buffered<I: Read + Drop>(rt: &HostRuntime, input: I) -> Result<BufReader<I>, Fault> {
+    match BufReader::new(rt.alloc(), input) {
+        Ok(input) => Ok(input),
+        Err(error) => Err(Fault::of_reading(&error)),
+    }
+}
+
+/// What the program reads: its inputs, with a report in the place of what a matcher reads.
+type Matched<'a> = BufReader<
+    MatchedInput<'a, HostRuntime, BufReader<Inputs<'a, HostRuntime, Stdin>>>,
+>;
+
+/// The options, with what the environment says where they leave it open.
+fn decided<'a>(rt: &HostRuntime, mut options: Options<'a>) -> Result<Options<'a>, Fault> {
     let environment = Environment::of(rt)?;
     let is_terminal = rt.stdout().is_terminal();
     options.style.is_colored = environment.is_colored(options.colors, is_terminal);
     options.style.width = environment.width(options.width, is_terminal);
-    let inputs = Inputs::new(rt, rt.alloc(), rt.stdin(), inputs);
-    let mut input = match BufReader::new(rt.alloc(), inputs) {
-        Ok(input) => input,
-        Err(error) => return Err(Fault::of_reading(&error)),
-    };
+    Ok(options)
+}
+
+/// Shows what inputs tell, as the options ask for.
+fn show_inputs(
+    rt: &HostRuntime,
+    options: Options<'_>,
+    inputs: &[Input<'_>],
+) -> Result<Status, Fault> {
+    let options = decided(rt, options)?;
+    let own = own_table(rt, rt.alloc(), options.matcher)?;
+    let matchers = matchers_of(rt.alloc(), &own, options.tool)?;
+    let inputs = buffered(rt, Inputs::new(rt, rt.alloc(), rt.stdin(), inputs))?;
+    let matched = MatchedInput::new(rt, rt.alloc(), &options, matchers, inputs)?;
+    show_matched(rt, &options_behind(options), buffered(rt, matched)?)
+}
+
+/// Shows what is read, as the options ask for. Where an input can't be read, that is told before another fault.
+fn show_matched(
+    rt: &HostRuntime,
+    options: &Options<'_>,
+    mut input: Matched<'_>,
+) -> Result<Status, Fault> {
     let mut streams = Streams {
         out: RetryInterrupted::new(rt.stdout()),
         beside: RetryInterrupted::new(rt.stderr()),
     };
-    match show(rt, rt.alloc(), &options, &mut input, &mut streams) {
+    match show(rt, rt.alloc(), options, &mut input, &mut streams) {
         Ok(sum) => Ok(sum.status(options.fail_on)),
-        Err(fault) => Err(input.into_inner().into_fault().unwrap_or(fault)),
+        Err(fault) => Err(
+            input
+                .into_inner()
+                .into_inner()
+                .into_inner()
+                .into_fault()
+                .unwrap_or(fault),
+        ),
     }
 }
 

@@ -1,7 +1,7 @@
 //! Which test refuses which call its memory. `tools/check-refused` compares this with the crates.
 
 /// Tests, each with the calls whose requests for memory it refuses in turn. A call that others make
-/// stands with the test of the outermost one.
+/// stands with the test of the outermost one, or with the tool that refuses a program its requests.
 pub(crate) const CALLS: &[(&str, &[&str])] = &[
     (
         "a_refused_label_is_an_error",
@@ -268,7 +268,7 @@ pub(crate) const CALLS: &[(&str, &[&str])] = &[
         &["Environment::of", "Inputs::read", "Fault::unread_file"],
     ),
     (
-        "a_refused_request_of_matched_lines_is_told",
+        "refuse-program",
         &[
             "LineReader::follow",
             "LineReader::is_told_by",

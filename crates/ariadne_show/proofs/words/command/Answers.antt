@@ -18,4 +18,6 @@ returns c =
     let two = with_one _ _ _ _ _ c.in_ok-arg-2.ensures c.number-2.ensures refl one in
     let three = with_one _ _ _ _ _ c.in_ok-arg-3.ensures c.text.ensures refl two in
     let four = with_one _ _ _ _ _ c.in_ok-arg-4.ensures c.text-2.ensures refl three in
-    IfOk-weaker c.arg-5.result _ _ (λ made added. (chosen.0, chosen.1, with_one _ made _ _ _ added c.inputs.ensures refl four)) c.arg-5.ensures
+    let five = with_one _ _ _ _ _ c.in_ok-arg-5.ensures c.text-3.ensures refl four in
+    let six = with_one _ _ _ _ _ c.in_ok-arg-6.ensures c.text-4.ensures refl five in
+    IfOk-weaker c.arg-7.result _ _ (λ made added. (chosen.0, chosen.1, with_one _ made _ _ _ added c.inputs.ensures refl six)) c.arg-7.ensures

@@ -1,0 +1,14 @@
+pub mod Firsts
+pub mod Found
+pub mod LastLines
+pub mod LentTexts
+pub mod Letters
+pub mod Lists
+pub mod MessageRows
+pub mod Numbers
+pub mod Parts
+pub mod Passing
+pub mod ReadEntries
+pub mod RowLines
+pub mod Spans
+pub mod Telling

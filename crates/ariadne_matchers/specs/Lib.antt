@@ -1,0 +1,10 @@
+pub mod Catches
+pub mod Lasts
+pub mod MatchedDiagnostics
+pub mod MatchedMessages
+pub mod MatchedPlaces
+pub mod MatchedRows
+pub mod Measures
+pub mod QuotedMarks
+pub mod Readers
+pub mod WordSeverities

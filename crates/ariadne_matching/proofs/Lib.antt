@@ -1,0 +1,5 @@
+mod HandedLines
+mod NoFloats
+mod Reported
+mod Settled
+mod Tried

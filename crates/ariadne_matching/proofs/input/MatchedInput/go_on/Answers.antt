@@ -1,0 +1,28 @@
+use Rattle.std.proofs.Common.{◌∙◌, ◌++◌, ap, arith, refl, string_bytes, subst, IfSome, Option, String}
+use Rattle.std.specs.declared.alloc.Global.{Global}
+use Rattle.ariadne_matching.specs.SettledLines.{IsSomeReport}
+use Rattle.ariadne_matching.proofs.Settled.{again_first, settled_none}
+use Rattle.ariadne_matching.proofs.input.MatchedInput.go_on.Goals as goal
+use Rattle.ariadne_matching.proofs.input.MatchedInput.go_on.Goals.{in_default-via-in-Some+in_default, in_default-via-in_default}
+
+-- no line waits, or no loop goes on
+pub returns-in_default : goal.returns-in_default
+returns-in_default g c =
+    elim c.in_default.branch [
+      | in_default-via-in-Some+in_default w ↦ rw w.self-is (settled_none _ _ _ _ refl refl)
+      | in_default-via-in_default w ↦ rw w.self-is (settled_none _ _ _ _ refl refl)
+    ]
+
+-- a loop goes on with the first line
+pub returns-in_ok-extend_from_slice-in-Some : goal.returns-in_ok-extend_from_slice-in-Some
+returns-in_ok-extend_from_slice-in-Some g c =
+    let old = c.args.self.now in
+    again_first old.waiting.items c.remove-taken.new.self.items c.remove-taken.result old.ready.items c.extend_from_slice.new.self.items
+    (omega (arith, c.remove-taken.ensures.len, old.waiting.ok.0)) c.remove-taken.ensures.value c.remove-taken.ensures.items
+    (string_bytes c.in-Some.report)
+    (subst (λ (line : Option (String Global)). IfSome line (λ it. IsSomeReport (string_bytes it))) c.in-Some.is c.in_ok-report.ensures)
+    (c.in_ok-extend_from_slice-in-Some.ensures.items ∙ ap (λ bytes. old.ready.items ++ bytes) c.as_bytes.ensures.value)
+
+-- it doesn't
+pub returns-in-None : goal.returns-in-None
+returns-in-None g c = settled_none _ _ _ _ refl refl

@@ -1,0 +1,5 @@
+pub mod HandedOver
+pub mod MatchedFiles
+pub mod MatchedReports
+pub mod SettledLines
+pub mod TriedMatchers
