@@ -18,7 +18,7 @@ import shutil
 from typing import NamedTuple
 
 LINE = re.compile(r"^(# by|# with|file|old|new): ?(.*)$", re.M)
-FUNCTION = re.compile(r"^( *)(?:pub(?:\([a-z ]+\))? )?(?:final )?(?:const )?(?:unsafe )?fn (\w+)")
+FUNCTION = re.compile(r'^( *)(?:pub(?:\([a-z ]+\))? )?(?:final )?(?:const )?(?:unsafe )?(?:extern "C" )?fn (\w+)')
 TRAIT = re.compile(r"(?:pub(?:\([a-z ]+\))? )?trait (\w+)")
 IMPL = re.compile(r"(?:unsafe )?impl\b")
 HEAD = 12  # lines that the head of an impl may take
