@@ -8,6 +8,7 @@ pub mod PieceLemmas
 pub mod Pushed
 pub mod Related
 pub mod Rows
+pub mod SeenLines
 pub mod SequenceLemmas
 pub mod TerminalLemmas
 pub mod Uris

@@ -9,8 +9,8 @@ ghost use Rattle.ariadne_outputs.specs.Passing.{passed_line, passing_text, piece
 ghost use Rattle.ariadne_outputs.specs.Sequences.{behind_charset as charset_behind, is_reset};
 
 use crate::sequence::{Sequence, behind_charset, first_sequence};
-use ariadne_safe::TextKind;
 use ariadne_safe::text::shown_char;
+use ariadne_safe::{TextKind, is_seen};
 use std::alloc::{AllocError, Global};
 
 /// The character that begins a sequence of a terminal.
@@ -134,13 +134,17 @@ fn push_kept(shown: &mut String, sequence: &Sequence<'_>) -> Result<bool, AllocE
     Ok(!sequence.is_reset())
 }
 
-/// Adds text, with signs for what is hidden in it.
+/// Adds text, with signs for what is hidden in it. Most texts hide nothing, and are added at once.
 fn push_visible(shown: &mut String, text: &str) -> Result<(), AllocError>
     ensures { OnOk result (string_bytes shown.new
         ≡ string_bytes shown.old ++ encode_utf8_all (map line_code (chars text.now))) }
 {
-    for c in text.chars() {
-        push_char(shown, c)?;
+    if is_seen(text) {
+        shown.push_str(text)?;
+    } else {
+        for c in text.chars() {
+            push_char(shown, c)?;
+        }
     }
     Ok(())
 }

@@ -3,7 +3,15 @@ use Rattle.std.specs.Prelude.{encode_utf8}
 use Rattle.std.specs.Str.Iter.{chars_rest}
 use Rattle.ariadne_outputs.specs.Passing.{line_code}
 use Rattle.ariadne_outputs.proofs.Pushed.{line_bytes, line_more, pushed_end, pushed_next, pushed_start}
+use Rattle.ariadne_outputs.proofs.SeenLines.{seen_bytes}
 use Rattle.ariadne_outputs.proofs.passing.push_visible.Goals as goal
+
+-- nothing is hidden in it
+pub returns-in_ok-push_str : goal.returns-in_ok-push_str
+returns-in_ok-push_str c =
+    c.in_ok-push_str.ensures.bytes
+    ∙ ap (λ t. string_bytes c.args.shown.now ++ t)
+    (sym (seen_bytes c.args.text.now c.utf8.text (sym c.is_seen.ensures ∙ c.if-is_seen.true)))
 
 -- nothing was added yet
 pub loop-c-init : goal.loop-c-init
@@ -21,7 +29,7 @@ loop-c-preserved c =
     ∙ ap (λ t. string_bytes c.loop-c.shown ++ t) (sym (append-nil (encode_utf8 (line_code c.in-Some.c)))))
 
 -- all were
-pub returns : goal.returns
-returns c =
+pub returns-in-None : goal.returns-in-None
+returns-in-None c =
     pushed_end line_bytes c.args.text.now (chars_rest c.loop-c.c-iterator) (string_bytes c.args.shown.now)
     (string_bytes c.loop-c.shown) refl c.loop-c.invariant c.in-None.ensures.steps.0.0
