@@ -2,4 +2,5 @@ mod HandedLines
 mod NoFloats
 mod Reported
 mod Settled
+mod Telling
 mod Tried

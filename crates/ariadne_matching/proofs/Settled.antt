@@ -1,7 +1,8 @@
 -- Lines that wait no more.
-use Rattle.std.proofs.Common.{◌≡◌, ◌∙◌, ℕ, ◌<◌, List, [], ◌∷◌, ◌++◌, drop, get_or, length, min, take, ap, sym, subst, arith}
+use Rattle.std.proofs.Common.{◌≡◌, ◌∙◌, ℕ, ◌<◌, List, [], ◌∷◌, ◌++◌, drop, get_or, length, min, take, Some, ap, sym, subst, arith}
+use Rattle.std.specs.List.{slice_get}
 use Rattle.std.proofs.lemmas.List.{drop_min}
-use Rattle.ariadne_matching.specs.SettledLines.{again, handed, more, none, passes, AreSettled, IsHandedFor, IsSomeReport, StandsFor}
+use Rattle.ariadne_matching.specs.SettledLines.{again, handed, more, none, passes, AreSettled, GoesOn, IsHandedFor, StandsFor}
 use Rattle.ariadne_matching.specs.declared.lines.Waiting.{Waiting}
 use Rattle.ariadne_matching.specs.declared.reading.Report.{Report}
 
@@ -24,6 +25,10 @@ first_is : {A : Type 0} (xs : List A) (x : A) → 0 < length xs → x ≡ get_or
 first_is [] x some read = absurd (omega arith)
 first_is (y ∷ xs) x some read = ap (λ z. z ∷ xs) (sym read)
 
+pub first_same : (w : List Waiting) (line taken : Waiting) → Some line ≡ slice_get w 0 → taken ≡ get_or w 0 taken → line ≡ taken
+first_same [] line taken is read = absurd (cc is)
+first_same (x ∷ w) line taken is read = let same : line ≡ x = cc is in same ∙ sym read
+
 module _ (w w' : List Waiting) (line : Waiting) (r r' : List ℕ) (some : 0 < length w) (read : line ≡ get_or w 0 line)
     (rest : w' ≡ take 0 w ++ drop 1 w) where
   -- it passes
@@ -33,7 +38,7 @@ module _ (w w' : List Waiting) (line : Waiting) (r r' : List ℕ) (some : 0 < le
       (subst (λ (lines : List Waiting). StandsFor lines 1 line.bytes.items) (sym (first_is w line some read)) passes) rest ready
 
   -- a loop goes on with it
-  pub again_first : (report : List ℕ) → IsSomeReport report → r' ≡ r ++ report → AreSettled w r w' r'
+  pub again_first : (report : List ℕ) → GoesOn line report → r' ≡ r ++ report → AreSettled w r w' r'
   again_first report is ready =
       settled_some w w' r r' report 1
       (subst (λ (lines : List Waiting). StandsFor lines 1 report) (sym (first_is w line some read)) (again is)) rest ready

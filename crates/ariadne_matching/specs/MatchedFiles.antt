@@ -1,7 +1,9 @@
 -- What is told of a file that was read.
-use Rattle.std.specs.Prelude.{ℕ, ◌≡◌, ◌++◌, ◌∷◌, [], Bool, true, false, List, Option, Some, option_map}
+use Rattle.std.specs.Prelude.{ℕ, ◌≡◌, ◌++◌, ◌∷◌, [], Bool, false, List, Option, Some, option_map}
 use Rattle.serde_json.specs.Written.{compact_text}
 use Rattle.ariadne_matchers.specs.MatchedPlaces.{placed_in}
+use Rattle.ariadne_matchers.specs.declared.entry.Entry.{Entry}
+use Rattle.ariadne_matchers.specs.declared.entry.Word.{Word}
 use Rattle.ariadne_matchers.specs.declared.matched.Matched.{Matched}
 use Rattle.ariadne_matchers.specs.declared.measure.Measure.{Measure}
 use Rattle.ariadne_matchers.specs.declared.measure.Unit.{Unit}
@@ -34,6 +36,7 @@ report_in measured file =
 abbrev pub IsReportOf : Measured → List ℕ → Type 0
 IsReportOf measured line = (file : TextFile) × (report_in measured file ≡ Some line)
 
--- a line is the report of what lines tell that an entry fits, of which this was caught
-abbrev pub IsReportFor : List Catch → List ℕ → Type 0
-IsReportFor caught line = (measured : Measured) × IsMeasuredOf caught measured × IsReportOf measured line
+-- a line is the report of what lines tell by an entry, of which this was caught
+abbrev pub IsReportFor : Option Entry → List Word → List Catch → List ℕ → Type 0
+IsReportFor entry words caught line =
+    (measured : Measured) × IsMeasuredOf entry words caught (Some measured) × IsReportOf measured line

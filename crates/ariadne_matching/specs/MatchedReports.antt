@@ -1,8 +1,8 @@
 -- A diagnostic that lines tell by a matcher, as a report of the program's own form: a value of JSON, whose members
 -- stand in the order of their names. Its one label stands in the file that the tool named. Lines and columns count
 -- from 1, and columns count characters.
-use Rattle.std.specs.Prelude.{ℕ, ◌≡◌, ◌+◌, List, [], ◌∷◌, codes, length, string_bytes}
-use Rattle.std.specs.Prelude.{Option, Some, None, option_map, String}
+use Rattle.std.specs.Prelude.{ℕ, ◌≡◌, ◌+◌, List, codes, length, string_bytes}
+use Rattle.std.specs.Prelude.{Option, Some, None, option_map, String, IfSome}
 use Rattle.std.specs.Option.{option_or}
 use Rattle.std.specs.declared.alloc.Global.{Global}
 use Rattle.serde_json.specs.Data.{Data, Members, array, item, no_items, no_members, number, object, put, string, unsigned}
@@ -68,9 +68,12 @@ report_of matched placed text =
 
 -- ---- what lines tell
 
--- a diagnostic is what lines tell that an entry fits, of which this was caught
-pub record IsMeasuredOf (caught : List Catch) (measured : Measured) : Type 0 where
-  pub entry : Entry
-  pub words : List Word
-  pub told : IsMatchedOf entry words caught (Some measured.matched)
-  pub measure : measured.measure ≡ entry.measure
+-- what lines tell by an entry, of which this was caught: a diagnostic, in the entry's measure, if they name a place
+pub record IsMeasuredBy (entry : Entry) (words : List Word) (caught : List Catch) (measured : Option Measured) : Type 0 where
+  pub told : IsMatchedOf entry words caught (option_map (λ it. it.matched) measured)
+  pub measure : IfSome measured (λ it. it.measure ≡ entry.measure)
+
+-- nothing where there is no such entry
+abbrev pub IsMeasuredOf : Option Entry → List Word → List Catch → Option Measured → Type 0
+IsMeasuredOf None words caught measured = measured ≡ None
+IsMeasuredOf (Some entry) words caught measured = IsMeasuredBy entry words caught measured

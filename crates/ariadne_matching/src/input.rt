@@ -2,6 +2,7 @@
 //! those of the input.
 
 ghost use Rattle.std.specs.Prelude.{◌≡◌, ◌≤◌, length, IfOk, OnOk};
+ghost use Rattle.ariadne_matching.specs.OwnTables.{is_any, options_behind as with_options_behind};
 ghost use Rattle.ariadne_matching.specs.SettledLines.{AreSettled, IsHandedFor};
 
 use crate::lines::Waiting;
@@ -247,7 +248,9 @@ impl<'a, R: Files, I: BufRead + Drop> MatchedInput<'a, R, I> {
 }
 
 /// What is asked of the program behind the matchers: where these read the lines of a tool, only the reports are read.
-pub fn options_behind(options: Options<'_>) -> Options<'_> {
+pub fn options_behind(options: Options<'_>) -> Options<'_>
+    ensures { result ≡ with_options_behind options.entry }
+{
     if options.tool.is_none() || !has_matchers(&options) {
         return options;
     }
@@ -259,7 +262,9 @@ pub fn options_behind(options: Options<'_>) -> Options<'_> {
 }
 
 /// Whether matchers read lines.
-fn has_matchers(options: &Options<'_>) -> bool {
+fn has_matchers(options: &Options<'_>) -> bool
+    ensures { result ≡ is_any options.now.reading.format }
+{
     matches!(options.reading.format, Format::Auto)
 }
 

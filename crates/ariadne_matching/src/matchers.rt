@@ -1,14 +1,17 @@
 //! The matchers that lines are tried by: people's own at each line, and behind them those of the program at lines
 //! with which one of these may begin.
 
-ghost use Rattle.std.specs.Prelude.{◌≡◌, map, IfOk, IfSome};
+ghost use Rattle.std.specs.Prelude.{◌≡◌, ◌⊎◌, ◌||◌, [], is_some, map, option_map, IfOk, IfSome, OnOk};
+ghost use Rattle.std.specs.List.{slice_get};
 ghost use Rattle.regex.specs.Strings.{matcher_pattern};
 ghost use Rattle.ariadne_matchers.specs.Catches.{caught_at};
 ghost use Rattle.ariadne_matchers.specs.MatchedRows.{texts};
-ghost use Rattle.ariadne_matchers.specs.Readers.{fitting_told, rows_in};
+ghost use Rattle.ariadne_matchers.specs.Readers.{entries_in, entries_of, fitting_told, words_of};
 ghost use Rattle.ariadne_matching.specs.MatchedReports.{IsMeasuredOf};
-ghost use Rattle.ariadne_matching.specs.TriedMatchers.{as_own, as_programs, begins_with, fits_first, fits_program};
-ghost use Rattle.ariadne_matching.specs.TriedMatchers.{program_rows, search_told};
+ghost use Rattle.ariadne_matching.specs.TriedMatchers.{as_own, as_programs, begins_with, entry_at, entry_read};
+ghost use Rattle.ariadne_matching.specs.TriedMatchers.{fits_program, has_own, has_programs, is_place, may_begin_with};
+ghost use Rattle.ariadne_matching.specs.TriedMatchers.{own_entries, place_behind, program_rows, renumbered, search_told, tried};
+ghost use Rattle.ariadne_matching.specs.TriedMatchers.{words_at, words_read, AreKept, IsNumbered};
 
 use ariadne_matcher_tables::{builtin_begins, builtin_text, table_from_toml};
 use ariadne_matchers::{Entry, Fit, Fitting, Matched, Measure, Reader, Table};
@@ -26,8 +29,17 @@ pub enum EntryAt {
 }
 
 impl EntryAt {
+    /// Whether it is the same as another.
+    pub fn is(self, other: EntryAt) -> bool
+        ensures { result ≡ is_place self other }
+    {
+        self == other
+    }
+
     /// The entry behind this one.
-    pub fn next(self) -> EntryAt {
+    pub fn next(self) -> EntryAt
+        ensures { result ≡ place_behind self }
+    {
         match self {
             EntryAt::Own(number) => EntryAt::Own(number.saturating_add(1)),
             EntryAt::Program(number) => EntryAt::Program(number.saturating_add(1)),
@@ -55,26 +67,31 @@ pub struct Measured {
     pub measure: Measure,
 }
 
-/// What lines tell that an entry of a reader fits. On `Err` there was no memory.
+/// What lines tell that an entry of a reader fits, if it has the entry. On `Err` there was no memory.
 fn measured_by(
     alloc: Global,
     reader: &Reader<'_>,
     fit: &Fit<'_>,
 ) -> Result<Option<Measured>, AllocError>
-    ensures { IfOk result (λ measured. IfSome measured (IsMeasuredOf (map caught_at fit.now.lines.items))) }
+    ensures { IfOk result (IsMeasuredOf (slice_get (entries_of reader.now) fit.now.entry) (words_of reader.now)
+        (map caught_at fit.now.lines.items)) }
 {
-    match (reader.entry(fit.entry), reader.diagnostic(alloc, fit)?) {
-        (Some(entry), Some(matched)) => Ok(Some(Measured {
+    let Some(entry) = reader.entry(fit.entry) else {
+        return Ok(None);
+    };
+    match reader.diagnostic(alloc, fit)? {
+        Some(matched) => Ok(Some(Measured {
             matched,
             measure: entry.measure,
         })),
-        _ => Ok(None),
+        None => Ok(None),
     }
 }
 
 /// What is known of people's own entries.
 fn own_search<'l>(fitting: Fitting<'l>) -> Search<'l>
-    ensures { search_told result ≡ as_own (fitting_told fitting.entry) }
+    ensures told { search_told result ≡ as_own (fitting_told fitting.entry) }
+    ensures numbered { IsNumbered result }
 {
     match fitting {
         Fitting::Nothing => Search::Nothing,
@@ -85,7 +102,8 @@ fn own_search<'l>(fitting: Fitting<'l>) -> Search<'l>
 
 /// What is known of the program's entries.
 fn program_search<'l>(fitting: Fitting<'l>) -> Search<'l>
-    ensures { search_told result ≡ as_programs (fitting_told fitting.entry) }
+    ensures told { search_told result ≡ as_programs (fitting_told fitting.entry) }
+    ensures numbered { IsNumbered result }
 {
     match fitting {
         Fitting::Nothing => Search::Nothing,
@@ -119,6 +137,7 @@ impl<'t> Program<'t> {
 
     /// What reads the entries, which are read now where they were not. It is to be put back.
     fn take_reader(&mut self, alloc: Global) -> Result<Reader<'static>, AllocError>
+        ensures reader { IfOk result (λ reader. IfSome self.old.reader (λ held. reader ≡ held)) }
         ensures same { matcher_pattern self.new.begins ≡ matcher_pattern self.old.begins }
     {
         match self.reader.take() {
@@ -128,7 +147,9 @@ impl<'t> Program<'t> {
     }
 
     /// Whether there is an entry. On `Err` there was no memory.
-    fn has_entries(&mut self, alloc: Global) -> Result<bool, AllocError> {
+    fn has_entries(&mut self, alloc: Global) -> Result<bool, AllocError>
+        ensures { IfOk result (λ has_entries. has_entries ≡ is_some (entry_read self.new.reader 0)) }
+    {
         let reader = self.take_reader(alloc)?;
         let has_entries = reader.entry(0).is_some();
         self.reader = Some(reader);
@@ -139,6 +160,7 @@ impl<'t> Program<'t> {
     fn may_begin(&mut self, lines: &[&str]) -> bool
         ensures begins { result ≡ begins_with (matcher_pattern self.old.begins) (texts lines.now) }
         ensures same { matcher_pattern self.new.begins ≡ matcher_pattern self.old.begins }
+        ensures reader { self.new.reader ≡ self.old.reader }
     {
         match lines.first() {
             Some(line) => self.begins.is_match(line),
@@ -157,6 +179,7 @@ impl<'t> Program<'t> {
         ensures fits { IfOk result (λ fitting. fitting_told fitting
             ≡ fits_program (matcher_pattern self.old.begins) (program_rows self.new) from is_all (texts lines.now)) }
         ensures same { matcher_pattern self.new.begins ≡ matcher_pattern self.old.begins }
+        ensures kept { OnOk result ((program_rows self.old ≡ []) ⊎ (program_rows self.new ≡ program_rows self.old)) }
     {
         if !self.may_begin(lines) {
             return Ok(Fitting::Nothing);
@@ -168,13 +191,16 @@ impl<'t> Program<'t> {
     }
 
     /// The entry of this number, if it was read.
-    fn entry(&self, number: usize) -> Option<&Entry> {
+    fn entry(&self, number: usize) -> Option<&Entry>
+        ensures { option_map (λ entry. entry.now) result ≡ entry_read self.now.reader number }
+    {
         self.reader.as_ref()?.entry(number)
     }
 
     /// What lines tell that an entry fits, if it was read. On `Err` there was no memory.
     fn measured(&self, alloc: Global, fit: &Fit<'_>) -> Result<Option<Measured>, AllocError>
-        ensures { IfOk result (λ measured. IfSome measured (IsMeasuredOf (map caught_at fit.now.lines.items))) }
+        ensures { IfOk result (IsMeasuredOf (entry_read self.now.reader fit.now.entry) (words_read self.now.reader)
+            (map caught_at fit.now.lines.items)) }
     {
         match &self.reader {
             Some(reader) => measured_by(alloc, reader, fit),
@@ -207,7 +233,9 @@ impl<'t> Matchers<'t> {
         alloc: Global,
         own: &'t Table,
         tool: Option<&'t str>,
-    ) -> Result<Matchers<'t>, AllocError> {
+    ) -> Result<Matchers<'t>, AllocError>
+        ensures { IfOk result (λ matchers. own_entries matchers ≡ entries_in (option_map (λ tool. tool.now) tool.entry) own.now) }
+    {
         Ok(Matchers {
             own: Reader::new(alloc, own, tool)?,
             program: Program::new(alloc, tool)?,
@@ -215,7 +243,10 @@ impl<'t> Matchers<'t> {
     }
 
     /// Whether there is an entry. On `Err` there was no memory.
-    pub fn has_entries(&mut self, alloc: Global) -> Result<bool, AllocError> {
+    pub fn has_entries(&mut self, alloc: Global) -> Result<bool, AllocError>
+        ensures has { IfOk result (λ has_entries. has_entries ≡ has_own self.new || has_programs self.new) }
+        ensures own { own_entries self.new ≡ own_entries self.old }
+    {
         if self.own.entry(0).is_some() {
             return Ok(true);
         }
@@ -223,7 +254,9 @@ impl<'t> Matchers<'t> {
     }
 
     /// Whether an entry may begin with the first of some lines: others need no look.
-    pub fn may_begin(&mut self, lines: &[&str]) -> bool {
+    pub fn may_begin(&mut self, lines: &[&str]) -> bool
+        ensures { result ≡ may_begin_with self.old (texts lines.now) }
+    {
         self.own.entry(0).is_some() || self.program.may_begin(lines)
     }
 
@@ -236,9 +269,9 @@ impl<'t> Matchers<'t> {
         lines: &[&'l str],
         is_all: bool,
     ) -> Result<Search<'l>, AllocError>
-        ensures { IfOk result (λ search. search_told search
-            ≡ fits_first (rows_in self.old.own) (matcher_pattern self.old.program.begins) (program_rows self.new.program)
-            from is_all (texts lines.now)) }
+        ensures fits { IfOk result (λ search. search_told search ≡ tried self.new from is_all (texts lines.now)) }
+        ensures numbered { IfOk result IsNumbered }
+        ensures kept { OnOk result (AreKept self.old self.new) }
     {
         match from {
             EntryAt::Own(number) => match self.own.fit(alloc, number, lines, is_all)? {
@@ -251,22 +284,25 @@ impl<'t> Matchers<'t> {
         }
     }
 
-    /// The entry at a place.
-    pub fn entry(&self, place: EntryAt) -> Option<&Entry> {
+    /// The entry at a place, if it was read.
+    pub fn entry(&self, place: EntryAt) -> Option<&Entry>
+        ensures { option_map (λ entry. entry.now) result ≡ entry_at self.now place }
+    {
         match place {
             EntryAt::Own(number) => self.own.entry(number),
             EntryAt::Program(number) => self.program.entry(number),
         }
     }
 
-    /// What lines tell that an entry fits. On `Err` there was no memory.
+    /// What lines tell that an entry fits, in the table of a place, if it has the entry. On `Err` there was no memory.
     pub fn measured(
         &self,
         alloc: Global,
         place: EntryAt,
         fit: &Fit<'_>,
     ) -> Result<Option<Measured>, AllocError>
-        ensures { IfOk result (λ measured. IfSome measured (IsMeasuredOf (map caught_at fit.now.lines.items))) }
+        ensures { IfOk result (IsMeasuredOf (entry_at self.now (renumbered place fit.now.entry))
+            (words_at self.now (renumbered place fit.now.entry)) (map caught_at fit.now.lines.items)) }
     {
         match place {
             EntryAt::Own(_) => measured_by(alloc, &self.own, fit),

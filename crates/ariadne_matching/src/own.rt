@@ -1,10 +1,15 @@
 //! People's own tables, and what is wrong with them.
 
+ghost use Rattle.std.specs.Prelude.{ℕ, ◌≡◌, ◌||◌, true, List, is_some, option_map, IfOk, IfSome};
+ghost use Rattle.ariadne_matchers.specs.Readers.{entries_in};
+ghost use Rattle.ariadne_matching.specs.OwnTables.{HasWordsBehind, IsOwnTable, IsTableIn};
+ghost use Rattle.ariadne_matching.specs.TriedMatchers.{has_own, has_programs, own_entries};
+
 use crate::matchers::Matchers;
 use ariadne_matcher_tables::{
     Fault as TableFault, Refusal, builtin_text, table_from_json, table_from_toml,
 };
-use ariadne_matchers::Table;
+use ariadne_matchers::{Table, Word};
 use ariadne_safe::{TextKind, visible};
 use ariadne_show::Fault;
 use std::alloc::{AllocError, Global};
@@ -19,7 +24,9 @@ const ENTRY: &str = "[[matcher]]";
 /// behind its own.
 ///
 /// On `Err` the file can't be read, or is no table, or there was no memory.
-pub fn own_table<R: Files>(files: &R, alloc: Global, path: Option<&str>) -> Result<Table, Fault> {
+pub fn own_table<R: Files>(files: &R, alloc: Global, path: Option<&str>) -> Result<Table, Fault>
+    ensures { IfOk result (IsOwnTable (is_some path.entry)) }
+{
     match path {
         Some(path) => with_words(alloc, read_table(files, alloc, path)?),
         None => Ok(Table {
@@ -36,7 +43,10 @@ pub fn matchers_of<'t>(
     alloc: Global,
     own: &'t Table,
     tool: Option<&'t str>,
-) -> Result<Matchers<'t>, Fault> {
+) -> Result<Matchers<'t>, Fault>
+    ensures own { IfOk result (λ matchers. own_entries matchers ≡ entries_in (option_map (λ tool. tool.now) tool.entry) own.now) }
+    ensures some { IfOk result (λ matchers. IfSome tool.entry (λ _. (has_own matchers || has_programs matchers) ≡ true)) }
+{
     let mut matchers = Matchers::new(alloc, own, tool)?;
     match tool {
         Some(tool) if !matchers.has_entries(alloc)? => Err(no_tool(alloc, tool)?),
@@ -45,7 +55,9 @@ pub fn matchers_of<'t>(
 }
 
 /// The table in the file at a path.
-fn read_table<R: Files>(files: &R, alloc: Global, path: &str) -> Result<Table, Fault> {
+fn read_table<R: Files>(files: &R, alloc: Global, path: &str) -> Result<Table, Fault>
+    ensures { IfOk result (λ table. (text : List ℕ) × IsTableIn text table) }
+{
     let text = match fs::read_to_string(&(files, alloc), path) {
         Ok(text) => text,
         Err(error) => return Err(unread(alloc, path, &error)?),
@@ -57,7 +69,9 @@ fn read_table<R: Files>(files: &R, alloc: Global, path: &str) -> Result<Table, F
 }
 
 /// The table that a text is, in JSON or in TOML.
-fn table_of(alloc: Global, text: &str) -> Result<Table, Refusal> {
+fn table_of(alloc: Global, text: &str) -> Result<Table, Refusal>
+    ensures { IfOk result (IsTableIn text.now) }
+{
     if is_json(text) {
         table_from_json(alloc, text)
     } else {
@@ -75,18 +89,23 @@ fn is_json(text: &str) -> bool {
 }
 
 /// A table with the program's words for severities behind its own.
-fn with_words(alloc: Global, table: Table) -> Result<Table, Fault> {
+fn with_words(alloc: Global, table: Table) -> Result<Table, Fault>
+    ensures { IfOk result (HasWordsBehind table) }
+{
     let mut table = table;
-    table.add(builtin_words(alloc)?)?;
+    table.add(Table {
+        entries: Vec::new(alloc),
+        words: builtin_words(alloc)?,
+    })?;
     Ok(table)
 }
 
-/// The program's words for severities, as a table without entries.
-fn builtin_words(alloc: Global) -> Result<Table, AllocError> {
+/// The program's words for severities.
+fn builtin_words(alloc: Global) -> Result<Vec<Word>, AllocError> {
     let mut text = String::from_str(alloc, "matcher = []\n")?;
     text.push_str(builtin_text().split(ENTRY).next().unwrap_or(""))?;
     match table_from_toml(alloc, text.as_str()) {
-        Ok(table) => Ok(table),
+        Ok(table) => Ok(table.words),
         Err(_) => Err(AllocError),
     }
 }

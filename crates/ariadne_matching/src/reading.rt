@@ -1,9 +1,9 @@
 //! What lines tell by matchers, as what is handed over for them.
 
-ghost use Rattle.std.specs.Prelude.{map, string_bytes, IfOk, IfSome};
+ghost use Rattle.std.specs.Prelude.{◌≡◌, ◌∷◌, [], map, string_bytes, IfOk, IfSome};
 ghost use Rattle.ariadne_matchers.specs.Catches.{caught_at};
-ghost use Rattle.ariadne_matching.specs.MatchedFiles.{IsReportFor};
-ghost use Rattle.ariadne_matching.specs.SettledLines.{IsReportOfFit, IsSomeReport, IsTold};
+ghost use Rattle.ariadne_matching.specs.SettledLines.{IsReportAt, IsReportOfFit, IsTold, IsToldAgain};
+ghost use Rattle.ariadne_matching.specs.TriedMatchers.{may_begin_with, renumbered};
 
 use crate::files::TextFiles;
 use crate::handing::handed_over;
@@ -68,7 +68,9 @@ impl<'a, R: Files> LineReader<'a, R> {
     }
 
     /// Whether an entry may begin with a line: others need no look.
-    pub fn may_begin(&mut self, line: &str) -> bool {
+    pub fn may_begin(&mut self, line: &str) -> bool
+        ensures { result ≡ may_begin_with self.old.matchers (line.now ∷ []) }
+    {
         self.matchers.may_begin(&[line])
     }
 
@@ -87,7 +89,7 @@ impl<'a, R: Files> LineReader<'a, R> {
     /// What lines tell, from the first one on: by the first entry that fits them, and whose file can be read and has
     /// its line. They are all that there are, or the first of them. On `Err` there was no memory.
     pub fn told(&mut self, lines: &[Waiting], is_all: bool) -> Result<Told, AllocError>
-        ensures { IfOk result (IsTold lines.now) }
+        ensures { IfOk result (IsTold self.new.matchers is_all lines.now) }
     {
         let texts = texts_of(self.alloc, lines)?;
         let mut from = EntryAt::Own(0);
@@ -106,7 +108,7 @@ impl<'a, R: Files> LineReader<'a, R> {
                 }
             }
         }
-        Ok(Told::Nothing)
+        Err(AllocError) // (No memory has so many entries.)
     }
 
     /// What a line tells behind the front of a loop, with which an entry fits it. On `Err` there was no memory.
@@ -116,7 +118,8 @@ impl<'a, R: Files> LineReader<'a, R> {
         front: &[Waiting],
         line: &Waiting,
     ) -> Result<Option<String>, AllocError>
-        ensures { IfOk result (λ line. IfSome line (λ it. IsSomeReport (string_bytes it))) }
+        ensures { IfOk result (λ report. IfSome report
+            (λ it. IsToldAgain self.new.matchers place front.now line.now (string_bytes it))) }
     {
         let mut texts = texts_of(self.alloc, front)?;
         texts.push(line.text.as_str())?;
@@ -124,7 +127,7 @@ impl<'a, R: Files> LineReader<'a, R> {
             .matchers
             .fit(self.alloc, place, texts.as_slice(), true)?
         {
-            Search::Fits(found, fit) if found == place && fit.lines.len() == texts.len() => {
+            Search::Fits(found, fit) if found.is(place) && fit.lines.len() == texts.len() => {
                 self.report_line(place, &fit)
             }
             _ => Ok(None),
@@ -138,7 +141,9 @@ impl<'a, R: Files> LineReader<'a, R> {
         lines: &[Waiting],
         fit: &Fit<'_>,
     ) -> Result<Option<Report>, AllocError>
-        ensures { IfOk result (λ report. IfSome report (IsReportOfFit lines.now fit.now)) }
+        ensures report { IfOk result (λ report. IfSome report
+            (IsReportOfFit self.old.matchers (renumbered place fit.now.entry) lines.now fit.now)) }
+        ensures same { self.new.matchers ≡ self.old.matchers }
     {
         match self.report_line(place, fit)? {
             Some(report) => Ok(Some(Report {
@@ -152,8 +157,9 @@ impl<'a, R: Files> LineReader<'a, R> {
 
     /// The report of what lines tell that an entry fits, if its file can be read and has its line.
     fn report_line(&mut self, place: EntryAt, fit: &Fit<'_>) -> Result<Option<String>, AllocError>
-        ensures { IfOk result (λ line. IfSome line
-            (λ it. IsReportFor (map caught_at fit.now.lines.items) (string_bytes it))) }
+        ensures report { IfOk result (λ line. IfSome line (λ it. IsReportAt self.old.matchers
+            (renumbered place fit.now.entry) (map caught_at fit.now.lines.items) (string_bytes it))) }
+        ensures same { self.new.matchers ≡ self.old.matchers }
     {
         match self.matchers.measured(self.alloc, place, fit)? {
             Some(measured) => self.texts.report(self.files, &measured),

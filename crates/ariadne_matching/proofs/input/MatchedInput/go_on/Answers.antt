@@ -1,7 +1,10 @@
-use Rattle.std.proofs.Common.{◌∙◌, ◌++◌, ap, arith, refl, string_bytes, subst, IfSome, Option, String}
+use Rattle.std.proofs.Common.{◌≡◌, ◌∙◌, ◌++◌, ap, arith, refl, string_bytes, subst, sym, IfSome, List, Option, String}
+use Rattle.std.specs.List.{slice_get}
+use Rattle.std.specs.Option.{option_copied}
 use Rattle.std.specs.declared.alloc.Global.{Global}
-use Rattle.ariadne_matching.specs.SettledLines.{IsSomeReport}
-use Rattle.ariadne_matching.proofs.Settled.{again_first, settled_none}
+use Rattle.ariadne_matching.specs.SettledLines.{IsToldAgain}
+use Rattle.ariadne_matching.specs.declared.lines.Waiting.{Waiting}
+use Rattle.ariadne_matching.proofs.Settled.{again_first, first_same, settled_none}
 use Rattle.ariadne_matching.proofs.input.MatchedInput.go_on.Goals as goal
 use Rattle.ariadne_matching.proofs.input.MatchedInput.go_on.Goals.{in_default-via-in-Some+in_default, in_default-via-in_default}
 
@@ -17,10 +20,20 @@ returns-in_default g c =
 pub returns-in_ok-extend_from_slice-in-Some : goal.returns-in_ok-extend_from_slice-in-Some
 returns-in_ok-extend_from_slice-in-Some g c =
     let old = c.args.self.now in
+    let found = c.in-Some-Some.found in
+    let line = c.in-Some-Some.line.now in
+    let matchers = c.told_again.new.self.matchers in
+    let front = c.as_slice.result.now in
+    let report = string_bytes c.in-Some.report in
+    let is : IsToldAgain matchers found.place front line report =
+    subst (λ (it : Option (String Global)). IfSome it (λ r. IsToldAgain matchers found.place front line (string_bytes r))) c.in-Some.is c.in_ok-report.ensures in
+    let same : line ≡ c.remove-taken.result =
+    first_same old.waiting.items line c.remove-taken.result
+    (ap option_copied (sym c.in-Some-Some.is-1) ∙ c.first.ensures.value ∙ ap (λ (w : List Waiting). slice_get w 0) c.deref.ensures.value)
+    c.remove-taken.ensures.value in
     again_first old.waiting.items c.remove-taken.new.self.items c.remove-taken.result old.ready.items c.extend_from_slice.new.self.items
-    (omega (arith, c.remove-taken.ensures.len, old.waiting.ok.0)) c.remove-taken.ensures.value c.remove-taken.ensures.items
-    (string_bytes c.in-Some.report)
-    (subst (λ (line : Option (String Global)). IfSome line (λ it. IsSomeReport (string_bytes it))) c.in-Some.is c.in_ok-report.ensures)
+    (omega (arith, c.remove-taken.ensures.len, old.waiting.ok.0)) c.remove-taken.ensures.value c.remove-taken.ensures.items report
+    (matchers, found.place, front, subst (λ (it : Waiting). IsToldAgain matchers found.place front it report) same is)
     (c.in_ok-extend_from_slice-in-Some.ensures.items ∙ ap (λ bytes. old.ready.items ++ bytes) c.as_bytes.ensures.value)
 
 -- it doesn't

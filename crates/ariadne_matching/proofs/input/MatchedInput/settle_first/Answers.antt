@@ -1,10 +1,10 @@
 use Rattle.std.proofs.Common.{ℕ, List, ap, subst}
 use Rattle.std.specs.Prelude.{Vec}
 use Rattle.std.specs.declared.alloc.Global.{Global}
-use Rattle.ariadne_matching.specs.SettledLines.{IsHandedFor, IsTold}
+use Rattle.ariadne_matching.specs.SettledLines.{IsHandedFor}
 use Rattle.ariadne_matching.specs.declared.lines.Waiting.{Waiting}
-use Rattle.ariadne_matching.specs.declared.reading.Told.{Told}
 use Rattle.ariadne_matching.proofs.Settled.{settled_then}
+use Rattle.ariadne_matching.proofs.Telling.{handed_for}
 use Rattle.ariadne_matching.proofs.input.MatchedInput.settle_first.Goals as goal
 
 -- the first line passes
@@ -16,8 +16,8 @@ returns-then-branch-2 g c =
 -- the report is one of the lines that wait
 pub hand_over-requires : goal.hand_over-requires
 hand_over-requires g c =
-    let is = subst (λ (it : Told). IsTold c.as_slice.result.now it) c.in-Report.is c.in_ok-told.ensures in
-    subst (λ (lines : List Waiting). IsHandedFor lines c.in-Report.report) c.as_slice.ensures.value is
+    subst (λ (lines : List Waiting). IsHandedFor lines c.in-Report.report) c.as_slice.ensures.value
+    (handed_for _ _ _ _ _ c.in-Report.is c.in_ok-told.ensures)
 
 -- the first line tells nothing
 pub returns-in_ok-pass_first-in-Nothing : goal.returns-in_ok-pass_first-in-Nothing
