@@ -1,12 +1,15 @@
-//! What is to be learned of a line of a snippet, as a text.
+//! What is to be learned of the rows of a snippet, as a text below each row.
 //!
 //! What a mark covers is told as `LINE:START..END`, with a `^` where it has one; the numbers were counted
 //! by hand.
 
-use crate::comparing::assert_text_of;
+use crate::comparing::assert_same_of;
 use ariadne_snippets::{Fix, FixKind, Label, Mark, Point, Snippet, Taken};
 use std::alloc::{AllocError, Global};
 use std::process::Abort;
+
+/// What stands in front of what is to be learned of the row above.
+const WANTED: &str = "=> ";
 
 /// The characters of a line with a number, from 1, if a file has it.
 fn line_of(
@@ -71,7 +74,7 @@ fn fixes_text(alloc: Global, fixes: &[Fix<'_>]) -> Result<String, AllocError> {
             FixKind::Become => "become",
             FixKind::Remove => "remove",
         };
-        write!(text, " {kind} {line}:{offset} {said}")?;
+        write!(text, " {kind} {line}:{offset} `{said}`")?;
     }
     Ok(text)
 }
@@ -112,17 +115,34 @@ fn learned(
     taken_text(alloc, &taken)
 }
 
-/// Asserts what is learned of the lines behind the head of a span.
+/// What a text tells of the row above the one of a number: what stands behind `=> `, or nothing.
+fn wanted<'t>(rows: &[&'t str], number: usize) -> &'t str {
+    match rows.get(number) {
+        Some(row) => row.strip_prefix(WANTED).unwrap_or(""),
+        None => "",
+    }
+}
+
+/// Asserts what is learned of the rows behind the head of a span. They stand in a text, behind its first line feed.
+/// Below a row of which something is learned stands this, behind `=> `.
 pub fn assert_learned(
     rt: &(impl AllocGlobal + Abort),
     file: &[&str],
     line: usize,
     caret: Option<usize>,
-    lines: &[(&str, &str)],
+    text: &str,
 ) {
     let mut snippet = Snippet::new(rt.alloc(), line, caret);
-    for (line, want) in lines {
-        let text = learned(rt.alloc(), &mut snippet, file, *line);
-        assert_text_of(rt, *line, text, *want);
+    let rows: Vec<&str> = text
+        .split_terminator('\n')
+        .collect(rt.alloc())
+        .expect(rt, "memory");
+    for (number, row) in rows.iter().enumerate().skip(1) {
+        if row.starts_with(WANTED) {
+            continue;
+        }
+        let found = learned(rt.alloc(), &mut snippet, file, *row).expect(rt, "memory");
+        let wanted = wanted(rows.as_slice(), number + 1);
+        assert_same_of(rt, *row, &found.as_str().trim_start(), &wanted);
     }
 }

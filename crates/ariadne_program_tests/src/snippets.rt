@@ -23,46 +23,54 @@ fn ranges_labels_and_fixes_of_gcc(rt: HostRuntime) {
         C,
         5,
         Some(19),
-        &[
-            ("    5 |         int x = p->color + n;", ""),
-            ("      |                    ^~~~~", " 5:12..17^"),
-            ("      |                    colour", " put 5:12 colour"),
-            ("a.c:6:26: error: invalid operands", "no"),
-        ],
+        r"
+    5 |         int x = p->color + n;
+      |                    ^~~~~
+=> 5:12..17^
+      |                    colour
+=> put 5:12 `colour`
+a.c:6:26: error: invalid operands
+=> no
+",
     );
     assert_learned(
         &rt,
         C,
         7,
         Some(21),
-        &[
-            ("    7 |         if (n = 3) return x     + s;", ""),
-            ("      |                           ~~~~~~^~~", " 7:19..24^"),
-        ],
+        r"
+    7 |         if (n = 3) return x     + s;
+      |                           ~~~~~~^~~
+=> 7:19..24^
+",
     );
     assert_learned(
         &rt,
         C,
         8,
         Some(13),
-        &[
-            ("    8 |     printf(\"%s %d\\n\", n, \"é\");", ""),
-            ("      |             ~^        ~", " 8:12..14^ 8:22..23"),
-            ("      |              |        |", ""),
-            ("      |              char *   int", " 0=char * 1=int"),
-            ("      |             %d", " put 8:12 %d"),
-        ],
+        r#"
+    8 |     printf("%s %d\n", n, "é");
+      |             ~^        ~
+=> 8:12..14^ 8:22..23
+      |              |        |
+      |              char *   int
+=> 0=char * 1=int
+      |             %d
+=> put 8:12 `%d`
+"#,
     );
     assert_learned(
         &rt,
         C,
         2,
         Some(0),
-        &[
-            ("    1 | #include <string.h>", ""),
-            ("  +++ |+#include <stdio.h>", " line 2:0 #include <stdio.h>"),
-            ("    2 | struct point { int colour; int y; };", ""),
-        ],
+        r"
+    1 | #include <string.h>
+  +++ |+#include <stdio.h>
+=> line 2:0 `#include <stdio.h>`
+    2 | struct point { int colour; int y; };
+",
     );
 }
 
@@ -79,21 +87,28 @@ fn labels_over_lines_of_gcc(rt: HostRuntime) {
         &file,
         2,
         Some(13),
-        &[
-            ("    2 |   int z = (y +", ""),
-            ("      |            ~ ^", " 2:11..12 2:13..14^"),
-            ("      |            |", ""),
-            ("      |            int", " 0=int"),
-            ("    3 |      x) * 2 +", ""),
-            ("      |      ~        ", " 3:5..6"),
-            ("      |      |", ""),
-            ("      |      A", " 0=A"),
-            ("......", ""),
-            ("    4 |        5--;", ""),
-            ("      |        ~^~", " 4:7..10^"),
-            ("      |         --", " remove 4:8 "),
-            ("    4 |        6--;", "no"),
-        ],
+        "
+    2 |   int z = (y +
+      |            ~ ^
+=> 2:11..12 2:13..14^
+      |            |
+      |            int
+=> 0=int
+    3 |      x) * 2 +
+      |      ~       \x20
+=> 3:5..6
+      |      |
+      |      A
+=> 0=A
+......
+    4 |        5--;
+      |        ~^~
+=> 4:7..10^
+      |         --
+=> remove 4:8 ``
+    4 |        6--;
+=> no
+",
     );
 }
 
@@ -110,18 +125,23 @@ fn ranges_over_lines_of_gcc(rt: HostRuntime) {
         &file,
         3,
         Some(4),
-        &[
-            ("    1 |   int w = (text +", ""),
-            ("      |           ~~~~~~~", " 1:10..17"),
-            ("      |                 |", ""),
-            ("      |                 Text", " 0=Text"),
-            ("    2 |       text)", ""),
-            ("      |       ~~~~~", " +2:6..11"),
-            ("    3 |     * (text", ""),
-            ("      |     ^ ~~~~~", " 3:4..5^ 3:6..11"),
-            ("    4 |        + text);", ""),
-            ("      |        ~~~~~~~", " +4:7..14"),
-        ],
+        r"
+    1 |   int w = (text +
+      |           ~~~~~~~
+=> 1:10..17
+      |                 |
+      |                 Text
+=> 0=Text
+    2 |       text)
+      |       ~~~~~
+=> +2:6..11
+    3 |     * (text
+      |     ^ ~~~~~
+=> 3:4..5^ 3:6..11
+    4 |        + text);
+      |        ~~~~~~~
+=> +4:7..14
+",
     );
 }
 
@@ -132,33 +152,38 @@ fn ranges_and_fixes_of_clang(rt: HostRuntime) {
         C,
         6,
         Some(23),
-        &[
-            ("    char *s = \"漢字\" + n * p;", ""),
-            (
-                "                       ~ ^ ~",
-                " 6:21..22 6:23..24^ 6:25..26",
-            ),
-            ("a.c:7:8: warning: using", "no"),
-        ],
+        r#"
+    char *s = "漢字" + n * p;
+                       ~ ^ ~
+=> 6:21..22 6:23..24^ 6:25..26
+a.c:7:8: warning: using
+=> no
+"#,
     );
     assert_learned(
         &rt,
         C,
         7,
         Some(7),
-        &[
-            ("        if (n = 3) return x     + s;", ""),
-            ("              ^", " 7:7..8^"),
-            ("            (    )", " put 7:5 ( put 7:10 )"),
-            ("            (    )", "no"),
-        ],
+        r"
+        if (n = 3) return x     + s;
+              ^
+=> 7:7..8^
+            (    )
+=> put 7:5 `(` put 7:10 `)`
+            (    )
+=> no
+",
     );
     assert_learned(
         &rt,
         C,
         5,
         Some(12),
-        &[("    return strlen(n) + undeclared;", "no")],
+        r"
+    return strlen(n) + undeclared;
+=> no
+",
     );
     let file = [
         "int a\u{c}b = \"x\u{1}\u{7f}\u{200b}\u{202e}\";  ",
@@ -169,21 +194,24 @@ fn ranges_and_fixes_of_clang(rt: HostRuntime) {
         &file,
         1,
         Some(5),
-        &[
-            (
-                "int a<U+000C>b = \"x<U+0001><U+007F><U+200B><U+202E>\";",
-                "",
-            ),
-            ("     ^", " 1:5..6^"),
-            ("     ;", " put 1:5 ;"),
-        ],
+        r#"
+int a<U+000C>b = "x<U+0001><U+007F><U+200B><U+202E>";
+     ^
+=> 1:5..6^
+     ;
+=> put 1:5 `;`
+"#,
     );
     assert_learned(
         &rt,
         &file,
         2,
         Some(6),
-        &[("int x;", ""), ("      ^", " 2:6..7^")],
+        r"
+int x;
+      ^
+=> 2:6..7^
+",
     );
 }
 
@@ -195,16 +223,17 @@ fn ranges_of_others(rt: HostRuntime) {
         &java,
         1,
         None,
-        &[
-            ("\t\tint x = s;\tint y = \"é漢\" + undefined;", ""),
-            ("\t\t          \t               ^", " 1:28..29^"),
-            (
-                "  symbol:   variable undefined",
-                "note symbol:   variable undefined",
-            ),
-            ("  location: class B", "more location: class B"),
-            ("B.java:5: error: incompatible types", "no"),
-        ],
+        "
+\t\tint x = s;\tint y = \"é漢\" + undefined;
+\t\t          \t               ^
+=> 1:28..29^
+  symbol:   variable undefined
+=> note symbol:   variable undefined
+  location: class B
+=> more location: class B
+B.java:5: error: incompatible types
+=> no
+",
     );
     let cpp = ["\tstd::string s = 5 + \"é\"; const char *z = s;"];
     assert_learned(
@@ -212,10 +241,11 @@ fn ranges_of_others(rt: HostRuntime) {
         &cpp,
         1,
         Some(40),
-        &[
-            (" std::string s = 5 + \"é\"; const char *z = s;", ""),
-            ("                                         ^", " 1:40..41^"),
-        ],
+        r#"
+ std::string s = 5 + "é"; const char *z = s;
+                                         ^
+=> 1:40..41^
+"#,
     );
     let python = ["def f():", "\tx: int = \"a\""];
     assert_learned(
@@ -223,10 +253,11 @@ fn ranges_of_others(rt: HostRuntime) {
         &python,
         2,
         Some(10),
-        &[
-            ("            x: int = \"a\"", ""),
-            ("                     ^~~", " 2:10..13^"),
-        ],
+        r#"
+            x: int = "a"
+                     ^~~
+=> 2:10..13^
+"#,
     );
     let erlang = ["f(X) -> Y = 1, Z."];
     assert_learned(
@@ -234,12 +265,14 @@ fn ranges_of_others(rt: HostRuntime) {
         &erlang,
         1,
         Some(15),
-        &[
-            ("%    1| f(X) -> Y = 1, Z.", ""),
-            ("%     |                ^", " 1:15..16^"),
-            ("", ""),
-            ("", "no"),
-        ],
+        r"
+%    1| f(X) -> Y = 1, Z.
+%     |                ^
+=> 1:15..16^
+
+
+=> no
+",
     );
 }
 
@@ -250,26 +283,24 @@ fn details_of_javac(rt: HostRuntime) {
         &["        List<Integer> li = List.of(\"a\", \"b\");"],
         1,
         None,
-        &[
-            ("        List<Integer> li = List.of(\"a\", \"b\");", ""),
-            ("                                  ^", " 1:34..35^"),
-            (
-                "    equality constraints: Integer",
-                "note   equality constraints: Integer",
-            ),
-            ("    lower bounds: String", "more   lower bounds: String"),
-            (
-                "  where E is a type-variable:",
-                "more where E is a type-variable:",
-            ),
-            (
-                "    E extends Object declared in method <E>of(E,E)",
-                "more   E extends Object declared in method <E>of(E,E)",
-            ),
-            ("J.java:14: error: for-each not applicable", "no"),
-        ],
+        r#"
+        List<Integer> li = List.of("a", "b");
+                                  ^
+=> 1:34..35^
+    equality constraints: Integer
+=> note   equality constraints: Integer
+    lower bounds: String
+=> more   lower bounds: String
+  where E is a type-variable:
+=> more where E is a type-variable:
+    E extends Object declared in method <E>of(E,E)
+=> more   E extends Object declared in method <E>of(E,E)
+J.java:14: error: for-each not applicable
+=> no
+"#,
     );
 }
+
 /// Asserts what marks below the quote of a line cover.
 fn assert_marked(
     rt: &(impl AllocGlobal + Abort),
@@ -279,7 +310,9 @@ fn assert_marked(
     quote: &str,
     marks: (&str, &str),
 ) {
-    assert_learned(rt, file, line, caret, &[(quote, ""), marks])
+    let (marks, covered) = marks;
+    let text = format!(in rt.alloc(); "\n{quote}\n{marks}\n=> {covered}\n").expect(rt, "memory");
+    assert_learned(rt, file, line, caret, text.as_str())
 }
 
 /// A file of Python, and its quote.
@@ -289,17 +322,17 @@ const PYTHON_QUOTE: &str = "    漢字: int = \"größe\"; zwei: str = 3 + \"漢
 
 /// Where a head's caret is, if it tells that, marks, and what they cover.
 const MARKS_IN_BYTES: &[(Option<usize>, &str, &str)] = &[
-    (None, "                  ^~~~~~~~~", " 1:10..17^"),
-    (Some(10), "                  ^~~~~~~~~", " 1:10..17^"),
+    (None, "                  ^~~~~~~~~", "1:10..17^"),
+    (Some(10), "                  ^~~~~~~~~", "1:10..17^"),
     (
         None,
         "                                             ^~~~~~~~",
-        " 1:35..39^",
+        "1:35..39^",
     ),
     (
         Some(48),
         "                                                           ^",
-        " 1:48..49^",
+        "1:48..49^",
     ),
 ];
 
@@ -317,19 +350,19 @@ const MARKS_IN_WHITE_SPACE: &[(&str, &str, &str, &str)] = &[
         "    import notamodule",
         "        import notamodule",
         "    ^",
-        " 1:0..1^",
+        "1:0..1^",
     ),
     (
         "\t\timport not_there",
         "                    import not_there",
         "    ^~~~~~~~",
-        " 1:0..1^",
+        "1:0..1^",
     ),
     (
         "\t  import not_there",
         "              import not_there",
         "            ^",
-        " 1:1..2^",
+        "1:1..2^",
     ),
 ];
 
@@ -342,9 +375,6 @@ fn marks_in_white_space_of_mypy(rt: HostRuntime) {
     }
 }
 
-/// A note of clang-tidy's.
-const OVERLAPS: &str = "note: this fix will not be applied because it overlaps with another fix";
-
 /// A note of clang-tidy and g++ may name no span: it stands behind marks, or behind what is to be put there.
 #[test]
 fn notes_without_a_span(rt: HostRuntime) {
@@ -353,36 +383,45 @@ fn notes_without_a_span(rt: HostRuntime) {
         &["    if (n > 3)"],
         1,
         Some(14),
-        &[
-            ("    if (n > 3)", ""),
-            ("              ^", " 1:14..15^"),
-            ("               {", " put 1:14 {"),
-            (
-                OVERLAPS,
-                "note this fix will not be applied because it overlaps with another fix",
-            ),
-            ("               {", "no"),
-        ],
+        r"
+    if (n > 3)
+              ^
+=> 1:14..15^
+               {
+=> put 1:14 `{`
+note: this fix will not be applied because it overlaps with another fix
+=> note this fix will not be applied because it overlaps with another fix
+               {
+=> no
+",
     );
     assert_learned(
         &rt,
         &["    show(1);"],
         1,
         Some(8),
-        &[
-            ("    1 |     show(1);", ""),
-            ("      |     ~~~~^~~", " 1:4..11^"),
-            ("cc1plus: note: set more", "note set more"),
-            ("cc1: note: set more", "note set more"),
-            ("      |     ~~~~^~~", "no"),
-        ],
+        r"
+    1 |     show(1);
+      |     ~~~~^~~
+=> 1:4..11^
+cc1plus: note: set more
+=> note set more
+cc1: note: set more
+=> note set more
+      |     ~~~~^~~
+=> no
+",
     );
     assert_learned(
         &rt,
         &["    show(1);"],
         1,
         Some(8),
-        &[("    show(1);", ""), (OVERLAPS, "no")],
+        r"
+    show(1);
+note: this fix will not be applied because it overlaps with another fix
+=> no
+",
     );
 }
 
@@ -394,16 +433,22 @@ fn events_at_one_mark(rt: HostRuntime) {
         &["    free(b); free(a);"],
         1,
         None,
-        &[
-            ("    1 |     free(b); free(a);", ""),
-            ("      |     ~~~~~~~  ~~~~~~~", " 1:4..11 1:13..20"),
-            ("      |     |        |", ""),
-            ("      |     |        (2) ...to here", " 1=(2) ...to here"),
-            ("      |     |        (3) freed here", " 1=(3) freed here"),
-            ("      |     (1) first", " 0=(1) first"),
-            ("      |     (4) more", " 0=(4) more"),
-            ("      |     if", " put 1:4 if"),
-        ],
+        r"
+    1 |     free(b); free(a);
+      |     ~~~~~~~  ~~~~~~~
+=> 1:4..11 1:13..20
+      |     |        |
+      |     |        (2) ...to here
+=> 1=(2) ...to here
+      |     |        (3) freed here
+=> 1=(3) freed here
+      |     (1) first
+=> 0=(1) first
+      |     (4) more
+=> 0=(4) more
+      |     if
+=> put 1:4 `if`
+",
     );
 }
 
@@ -415,12 +460,14 @@ fn events_that_were_moved(rt: HostRuntime) {
         &["    free(b); free(a);"],
         1,
         None,
-        &[
-            ("    1 |     free(b); free(a);", ""),
-            ("      |     ~~~~~~~  ~~~~~~~", " 1:4..11 1:13..20"),
-            ("      |     |        |", ""),
-            ("      |     (1) x  (2) y", " 0=(1) x 1=(2) y"),
-        ],
+        r"
+    1 |     free(b); free(a);
+      |     ~~~~~~~  ~~~~~~~
+=> 1:4..11 1:13..20
+      |     |        |
+      |     (1) x  (2) y
+=> 0=(1) x 1=(2) y
+",
     );
 }
 
@@ -432,38 +479,79 @@ fn notes_about_text_in_no_file(rt: HostRuntime) {
         &["\tNAME(foo);"],
         1,
         Some(1),
-        &[
-            ("        NAME(foo);", ""),
-            ("        ^", " 1:1..2^"),
-            (
-                "<scratch space>:2:1: note: expanded from here",
-                "note expanded from here",
-            ),
-            ("        foo_t", "more foo_t"),
-            ("        ^~~~~", ""),
-            (
-                "<inline asm>:1:2: note: instantiated into assembly here",
-                "note instantiated into assembly here",
-            ),
-            ("a.c:1:2: error: m", "no"),
-        ],
+        r"
+        NAME(foo);
+        ^
+=> 1:1..2^
+<scratch space>:2:1: note: expanded from here
+=> note expanded from here
+        foo_t
+=> more foo_t
+        ^~~~~
+<inline asm>:1:2: note: instantiated into assembly here
+=> note instantiated into assembly here
+a.c:1:2: error: m
+=> no
+",
     );
     assert_learned(
         &rt,
         &["x"],
         1,
         Some(0),
-        &[("<scratch space>:2:1: note: expanded from here", "no")],
+        r"
+<scratch space>:2:1: note: expanded from here
+=> no
+",
     );
 }
 
 /// clang doesn't quote a line that has nothing, and cppcheck quotes nothing where its head names no line.
 #[test]
 fn marks_below_nothing(rt: HostRuntime) {
-    assert_learned(&rt, &["a", ""], 2, Some(0), &[("^", " 2:0..1^")]);
-    assert_learned(&rt, &["a", ""], 1, Some(0), &[("^", "no")]);
-    assert_learned(&rt, &["a"], 0, None, &[("", ""), ("^", ""), ("^", "no")]);
-    assert_learned(&rt, &["a"], 0, None, &[("", ""), ("a", "no")]);
+    assert_learned(
+        &rt,
+        &["a", ""],
+        2,
+        Some(0),
+        r"
+^
+=> 2:0..1^
+",
+    );
+    assert_learned(
+        &rt,
+        &["a", ""],
+        1,
+        Some(0),
+        r"
+^
+=> no
+",
+    );
+    assert_learned(
+        &rt,
+        &["a"],
+        0,
+        None,
+        r"
+
+^
+^
+=> no
+",
+    );
+    assert_learned(
+        &rt,
+        &["a"],
+        0,
+        None,
+        r"
+
+a
+=> no
+",
+    );
 }
 
 /// Where clang names ranges in its heads, a blank stands in front of the quote and of the marks.
@@ -474,22 +562,26 @@ fn marks_behind_a_blank_of_clang(rt: HostRuntime) {
         &["\tx = a + 1"],
         1,
         Some(7),
-        &[
-            ("        x = a + 1", ""),
-            ("             ~ ^ ~", " 1:5..6 1:7..8^ 1:9..10"),
-            ("                 ;", " put 1:10 ;"),
-        ],
+        r"
+        x = a + 1
+             ~ ^ ~
+=> 1:5..6 1:7..8^ 1:9..10
+                 ;
+=> put 1:10 `;`
+",
     );
     assert_learned(
         &rt,
         &["x = a + 1"],
         1,
         Some(9),
-        &[
-            (" x = a + 1", ""),
-            ("          ^", " 1:9..10^"),
-            ("         ;", " put 1:9 ;"),
-        ],
+        r"
+ x = a + 1
+          ^
+=> 1:9..10^
+         ;
+=> put 1:9 `;`
+",
     );
 }
 
@@ -501,20 +593,22 @@ fn quotes_that_lack_something(rt: HostRuntime) {
         &["int x = \"é漢\" + u;"],
         1,
         None,
-        &[
-            ("int x = \"??\" + u;", ""),
-            ("               ^", " 1:15..16^"),
-        ],
+        r#"
+int x = "??" + u;
+               ^
+=> 1:15..16^
+"#,
     );
     assert_learned(
         &rt,
         &["int first_name = 1, second_name = 2;"],
         1,
         Some(20),
-        &[
-            ("    1 | ame = 1, second_name = 2;", ""),
-            ("      |          ^~~~~~~~~~~", " 1:20..31^"),
-        ],
+        r"
+    1 | ame = 1, second_name = 2;
+      |          ^~~~~~~~~~~
+=> 1:20..31^
+",
     );
 }
 
@@ -529,28 +623,23 @@ const JAVA: &[&str] = &[TABBED_JAVA, PAIRED_JAVA, LATIN_JAVA];
 
 /// Lines of the file, how they are quoted, carets below that, and what these mean.
 const UNITS: &[(usize, &str, &str, &str)] = &[
-    (1, TABBED_JAVA, "\t                    \t^", " 1:21..22^"),
+    (1, TABBED_JAVA, "\t                    \t^", "1:21..22^"),
     (
         1,
         "\tint c = /* ? ? ? */\tdelta;",
         "\t                    \t^",
-        " 1:21..22^",
+        "1:21..22^",
     ),
-    (2, PAIRED_JAVA, "                   ^", " 2:17..18^"),
+    (2, PAIRED_JAVA, "                   ^", "2:17..18^"),
     (
         2,
         "int b = /* ?? */ cedar;",
         "                   ^",
-        " 2:17..18^",
+        "2:17..18^",
     ),
-    (3, LATIN_JAVA, "            ^", " 3:11..12^"),
-    (3, "// gr????e: ???? ???", "        ^", " 3:6..7^"),
-    (
-        3,
-        "// gr????e: ???? ???",
-        "                 ^",
-        " 3:12..13^",
-    ),
+    (3, LATIN_JAVA, "            ^", "3:11..12^"),
+    (3, "// gr????e: ???? ???", "        ^", "3:6..7^"),
+    (3, "// gr????e: ???? ???", "                 ^", "3:12..13^"),
 ];
 
 /// javac's caret counts units of UTF-16, in tabs as they are, whether the quote has its letters or `?` for each; or
@@ -571,14 +660,14 @@ const CPP: &[&str] = &[FIRST_CPP, SECOND_CPP];
 
 /// Lines of the file and carets in them, each with its marks, and what these cover.
 const WIDE_MARKS: &[(usize, usize, &str, &str)] = &[
-    (1, 13, "         ~~~ ^ ~~~", " 1:9..12 1:13..14^ 1:15..18"),
-    (1, 36, "                                    ^", " 1:36..37^"),
-    (2, 16, "                 ^", " 2:16..17^"),
+    (1, 13, "         ~~~ ^ ~~~", "1:9..12 1:13..14^ 1:15..18"),
+    (1, 36, "                                    ^", "1:36..37^"),
+    (2, 16, "                 ^", "2:16..17^"),
     (
         2,
         38,
         "                                       ^",
-        " 2:38..39^",
+        "2:38..39^",
     ),
 ];
 
@@ -602,7 +691,8 @@ const WHOLE_ROWS: &[(&str, &str)] = &[
 #[test]
 fn lines_that_a_first_row_shows_whole(rt: HostRuntime) {
     for &(line, row) in WHOLE_ROWS {
-        assert_learned(&rt, &["", "", "", "", "", "", line], 7, None, &[(row, "")]);
+        let text = format!(in rt.alloc(); "\n{row}\n").expect(&rt, "memory");
+        assert_learned(&rt, &["", "", "", "", "", "", line], 7, None, text.as_str());
     }
 }
 
@@ -613,20 +703,23 @@ fn fixes_behind_a_line_and_escapes_of_erlc(rt: HostRuntime) {
         &["    if (n > 3)"],
         1,
         Some(14),
-        &[
-            ("    if (n > 3)", ""),
-            ("              ^", " 1:14..15^"),
-            ("               {", " put 1:14 {"),
-        ],
+        r"
+    if (n > 3)
+              ^
+=> 1:14..15^
+               {
+=> put 1:14 `{`
+",
     );
     assert_learned(
         &rt,
         &["    1 -> \"漢\" ok"],
         1,
         Some(13),
-        &[
-            ("%    1|     1 -> \"\\x{6F22}\" ok", ""),
-            ("%     |              ^", " 1:13..14^"),
-        ],
+        r#"
+%    1|     1 -> "\x{6F22}" ok
+%     |              ^
+=> 1:13..14^
+"#,
     );
 }
