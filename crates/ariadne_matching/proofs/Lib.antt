@@ -2,5 +2,6 @@ mod HandedLines
 mod NoFloats
 mod Reported
 mod Settled
+mod Taken
 mod Telling
 mod Tried

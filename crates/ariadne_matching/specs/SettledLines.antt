@@ -4,7 +4,7 @@ use Rattle.std.specs.Prelude.{ℕ, ◌≡◌, ◌+◌, Bool, true, List, [], ◌
 use Rattle.ariadne_matchers.specs.Catches.{Catch, caught_at}
 use Rattle.ariadne_matchers.specs.MatchedRows.{open_yet, takes}
 use Rattle.ariadne_matchers.specs.declared.reader.Fit.{Fit}
-use Rattle.ariadne_matching.specs.HandedOver.{handed_over, text_in}
+use Rattle.ariadne_matching.specs.HandedOver.{handed_over, text_in, IsWaitingLine}
 use Rattle.ariadne_matching.specs.MatchedFiles.{IsReportFor}
 use Rattle.ariadne_matching.specs.TriedMatchers.{entry_at, tried, words_at, IsReached}
 use Rattle.ariadne_matching.specs.declared.matchers.EntryAt.{EntryAt}
@@ -64,6 +64,13 @@ pub record IsToldAgain (matchers : Matchers) (place : EntryAt) (front : List Wai
 abbrev pub GoesOn : Waiting → List ℕ → Type 0
 GoesOn line report =
     (matchers : Matchers) × (place : EntryAt) × (front : List Waiting) × IsToldAgain matchers place front line report
+
+-- ---- a line that is read
+
+-- it waits behind those that wait, or none waits and its bytes are ready
+pub data IsTaken (bytes : List ℕ) (before : List Waiting) (ready : List ℕ) : List Waiting → List ℕ → Type 0 where
+  last : {line : Waiting} → IsWaitingLine bytes line → IsTaken bytes before ready (before ++ line ∷ []) ready
+  at_once : before ≡ [] → IsTaken bytes before ready [] bytes
 
 -- ---- lines that wait no more
 

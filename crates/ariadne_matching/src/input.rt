@@ -1,11 +1,13 @@
 //! An input in which the lines of diagnostics that matchers read are replaced by their reports. All other lines are
 //! those of the input.
 
-ghost use Rattle.std.specs.Prelude.{◌≡◌, ◌≤◌, length, IfOk, OnOk};
+ghost use Rattle.std.specs.Prelude.{◌≡◌, ◌≤◌, ◌∷◌, [], length, true, false, IfOk, OnOk};
+ghost use Rattle.ariadne_show.specs.InputLines.{bare_text as text_of_line};
 ghost use Rattle.ariadne_matching.specs.OwnTables.{is_any, options_behind as with_options_behind};
-ghost use Rattle.ariadne_matching.specs.SettledLines.{AreSettled, IsHandedFor};
+ghost use Rattle.ariadne_matching.specs.SettledLines.{AreSettled, IsHandedFor, IsTaken};
+ghost use Rattle.ariadne_matching.specs.TriedMatchers.{may_begin_with};
 
-use crate::lines::Waiting;
+use crate::lines::{Waiting, text_in_place};
 use crate::matchers::{EntryAt, Matchers};
 use crate::reading::{LineReader, Report, Told};
 use ariadne_parse::{
@@ -99,9 +101,9 @@ impl<'a, R: Files, I: BufRead + Drop> MatchedInput<'a, R, I> {
 
     /// Reads a line, and makes ready what is known then. Where the input can't be read on, it is over.
     fn step(&mut self) -> Result<(), AllocError> {
-        self.ready.clear();
+        let mut bytes = std::mem::replace(&mut self.ready, Vec::new(self.alloc));
+        bytes.clear();
         self.given = 0;
-        let mut bytes = Vec::new(self.alloc);
         match self.input.read_until(b'\n', &mut bytes) {
             Ok(0) => self.is_ended = true,
             Ok(_) => self.take(bytes)?,
@@ -113,14 +115,38 @@ impl<'a, R: Files, I: BufRead + Drop> MatchedInput<'a, R, I> {
         self.settle()
     }
 
-    /// Has a line wait. Where no matcher reads lines it is ready as it is.
-    fn take(&mut self, bytes: Vec<u8>) -> Result<(), AllocError> {
-        if self.how.has_matchers {
-            self.waiting.push(Waiting::new(self.alloc, bytes)?)?;
-        } else {
+    /// Has a line wait, or makes it ready at once, if no other waits and no matcher needs a look at it.
+    #[tactic(auto, using(crate::proofs::Taken::taken_last, crate::proofs::Taken::taken_at_once))]
+    fn take(&mut self, bytes: Vec<u8>) -> Result<(), AllocError>
+        ensures { OnOk result (IsTaken bytes.items self.old.waiting.items self.old.ready.items
+            self.new.waiting.items self.new.ready.items) }
+    {
+        if self.waiting.is_empty() && self.passes_at_once(bytes.as_slice())? {
             self.ready = bytes;
+        } else {
+            self.waiting.push(Waiting::new(self.alloc, bytes)?)?;
         }
         Ok(())
+    }
+
+    /// Whether a line passes without waiting: no matcher reads lines, or none may begin there and no loop may go on.
+    fn passes_at_once(&mut self, bytes: &[u8]) -> Result<bool, AllocError>
+        ensures waiting { self.new.waiting ≡ self.old.waiting }
+        ensures ready { self.new.ready ≡ self.old.ready }
+        ensures passes { IfOk result (λ passes. passes ≡ true → self.old.how.has_matchers ≡ true
+            → may_begin_with self.old.reader.matchers (text_of_line bytes.now ∷ []) ≡ false) }
+    {
+        if !self.how.has_matchers {
+            return Ok(true);
+        }
+        let Some(line) = text_in_place(bytes) else {
+            return Ok(false);
+        };
+        if self.repeats.is_some() || self.reader.may_begin(line) {
+            return Ok(false);
+        }
+        self.reader.follow(line)?;
+        Ok(true)
     }
 
     /// What is given at the end: why the input can't be read, once, if it can't.

@@ -1,4 +1,4 @@
-use Rattle.std.proofs.Common.{◌≡◌, ◌∙◌, ◌++◌, ap, ap₂}
+use Rattle.std.proofs.Common.{◌∙◌, ◌++◌, ap, ap₂}
 use Rattle.ariadne_matching.specs.HandedOver.{handed_at, passing_bytes, report_at}
 use Rattle.ariadne_matching.proofs.HandedLines.{lent, line_more}
 use Rattle.ariadne_matching.proofs.handing.handed_over.Goals as goal
