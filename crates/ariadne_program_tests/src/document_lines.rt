@@ -36,14 +36,23 @@ fn lines_that_begin_a_document(rt: HostRuntime) {
     }
 }
 
-/// A document by its lines, and the last step.
-fn gathered(alloc: Global, lines: &[&str]) -> Result<(Document, Step), AllocError> {
+/// The document that a text begins, and what it does with the last line. A line behind its end isn't taken.
+pub fn gathered(alloc: Global, text: &str) -> Result<(Document, Option<Step>), AllocError> {
     let mut document = Document::new(alloc);
-    let mut step = Step::GoesOn;
-    for line in lines {
-        step = document.take(line.as_bytes())?;
+    let mut step = None;
+    for line in text.split_inclusive('\n') {
+        step = Some(taken(&mut document, step, line.as_bytes())?);
     }
     Ok((document, step))
+}
+
+/// What a document does with a line behind another step, or with its first line.
+fn taken(document: &mut Document, step: Option<Step>, line: &[u8]) -> Result<Step, AllocError> {
+    match step {
+        None if !begins(line) => Ok(Step::Broken),
+        Some(Step::Ended | Step::Broken) => Ok(Step::Broken),
+        _ => document.take(line),
+    }
 }
 
 /// The number of a value's members `a`.
@@ -54,60 +63,41 @@ fn number_in(value: Option<Value>) -> u64 {
     }
 }
 
-/// Lines, each list with the step of its last one, the bytes that are held then, and the number that the value has.
-const DOCUMENTS: &[(&[&str], Step, &str, u64)] = &[
-    (
-        &["{\n", "  \"a\": 7\n", "}\n"],
-        Step::Ended,
-        "{\n  \"a\": 7\n}\n",
-        7,
-    ),
-    (
-        &["{\n", "\n", "\t\"a\": 7\r\n", "}"],
-        Step::Ended,
-        "{\n\n\t\"a\": 7\r\n}",
-        7,
-    ),
-    (
-        &["{\n", "  \"a\": 7,\n"],
-        Step::GoesOn,
-        "{\n  \"a\": 7,\n",
-        0,
-    ),
+/// The lines that are taken, and one that isn't, each with the last step and the number that the value has.
+const DOCUMENTS: &[(&str, &str, Step, u64)] = &[
+    ("{\n  \"a\": 7\n}\n", "", Step::Ended, 7),
+    ("{\n\n\t\"a\": 7\r\n}", "", Step::Ended, 7),
+    ("{\n  \"a\": 7,\n", "", Step::GoesOn, 0),
     // brackets in texts are none
     (
-        &["{\n", "  \"b\": \"}]\\\"}\",\n", "  \"a\": 7\n", "}\n"],
-        Step::Ended,
         "{\n  \"b\": \"}]\\\"}\",\n  \"a\": 7\n}\n",
+        "",
+        Step::Ended,
         7,
     ),
     // a line that can't be one of it isn't taken
-    (&["{\n", "a.c:1:2: error: m\n"], Step::Broken, "{\n", 0),
-    (&["{\n", "  \"a\": \"\n"], Step::Broken, "{\n", 0),
+    ("{\n", "a.c:1:2: error: m\n", Step::Broken, 0),
+    ("{\n", "  \"a\": \"\n", Step::Broken, 0),
     // it ends, and serde_json refuses it
-    (
-        &["{\n", "  \"a\": 7,\n", "}\n"],
-        Step::Ended,
-        "{\n  \"a\": 7,\n}\n",
-        0,
-    ),
-    (&["[\n", "}\n"], Step::Ended, "[\n}\n", 0),
+    ("{\n  \"a\": 7,\n}\n", "", Step::Ended, 0),
+    ("[\n}\n", "", Step::Ended, 0),
     // half a pair that stands alone is mended
     (
-        &["{\n", "  \"b\": \"\\ud800\",\n", "  \"a\": 7\n", "}\n"],
-        Step::Ended,
         "{\n  \"b\": \"\\ud800\",\n  \"a\": 7\n}\n",
+        "",
+        Step::Ended,
         7,
     ),
 ];
 
 #[test]
 fn documents_by_their_lines(rt: HostRuntime) {
-    for (lines, step, bytes, number) in DOCUMENTS {
-        let (document, found) = gathered(rt.alloc(), *lines).expect(&rt, "memory");
-        assert_eq!(rt; found, *step, "of {bytes:?}");
-        assert_eq!(rt; document.bytes(), bytes.as_bytes());
+    for (held, other, step, number) in DOCUMENTS {
+        let text = [*held, *other].concat(rt.alloc()).expect(&rt, "memory");
+        let (document, found) = gathered(rt.alloc(), text.as_str()).expect(&rt, "memory");
+        assert_eq!(rt; found, Some(*step), "of {held:?}");
+        assert_eq!(rt; document.bytes(), held.as_bytes());
         let value = document.value(rt.alloc()).expect(&rt, "memory");
-        assert_eq!(rt; number_in(value), *number, "of {bytes:?}");
+        assert_eq!(rt; number_in(value), *number, "of {held:?}");
     }
 }

@@ -1,7 +1,8 @@
 //! Documents that go over many lines, as `jq .` writes them, from their lines to what they tell.
 
+use crate::document_lines::gathered;
 use crate::showing::{all_text, assert_rows};
-use ariadne_documents::{Document, Step, begins, document_answer, line_answer};
+use ariadne_documents::{Step, document_answer, line_answer};
 use ariadne_parse::{Answer, Counting, Format, Reading, Sent, Unit};
 use std::alloc::{AllocError, Global};
 
@@ -96,22 +97,6 @@ const VET: &str = r#"{
 }
 "#;
 
-/// The document that a text is, if its first line begins one and its last line ends it.
-fn gathered(alloc: Global, text: &str) -> Result<Option<Document>, AllocError> {
-    let mut document = Document::new(alloc);
-    let mut last = None;
-    for line in text.lines() {
-        if last.is_none() && !begins(line.as_bytes()) || last == Some(Step::Ended) {
-            return Ok(None);
-        }
-        last = Some(document.take(line.as_bytes())?);
-    }
-    match last {
-        Some(Step::Ended) => Ok(Some(document)),
-        _ => Ok(None),
-    }
-}
-
 /// An answer in rows.
 fn answer_text(alloc: Global, answer: &Answer) -> Result<String, AllocError> {
     match answer {
@@ -124,7 +109,7 @@ fn answer_text(alloc: Global, answer: &Answer) -> Result<String, AllocError> {
 
 /// What a text tells that is one document, in rows.
 fn told_text(alloc: Global, text: &str) -> Result<String, AllocError> {
-    let Some(document) = gathered(alloc, text)? else {
+    let (document, Some(Step::Ended)) = gathered(alloc, text)? else {
         return String::from_str(alloc, "no document\n");
     };
     let mut sent = Sent::new(alloc);

@@ -1,8 +1,9 @@
 //! What rustc and gcc propose in their JSON, as changes of files.
 
 use crate::comparing::assert_text_of;
+use crate::showing::push_changes;
 use ariadne_parse::{
-    Answer, Change, Counting, Diagnostic, Format, Location, Proposal, Reading, Sent, Unit, parsed,
+    Answer, Change, Counting, Diagnostic, Format, Proposal, Reading, Sent, Unit, parsed,
 };
 use std::alloc::{AllocError, Global};
 
@@ -40,20 +41,6 @@ const LINES: &[(&str, &str)] = &[
     ),
 ];
 
-/// A location, as `LINE:COLUMN`.
-fn location_text(alloc: Global, location: Location) -> Result<String, AllocError> {
-    let (line, column) = (location.line, location.column.unwrap_or(0));
-    format!(in alloc; "{line}:{column}")
-}
-
-/// Has a text go on with a change.
-fn push_change(alloc: Global, text: &mut String, change: &Change) -> Result<(), AllocError> {
-    let start = location_text(alloc, change.start)?;
-    let end = location_text(alloc, change.end)?;
-    let put_in = change.put_in.as_str();
-    text.push_str(format!(in alloc; " {start}-{end} `{put_in}`")?.as_str())
-}
-
 /// The ways of a proposal.
 fn ways_text(alloc: Global, ways: &[Vec<Change>]) -> Result<String, AllocError> {
     let mut text = String::new(alloc);
@@ -61,9 +48,7 @@ fn ways_text(alloc: Global, ways: &[Vec<Change>]) -> Result<String, AllocError> 
         if number != 0 {
             text.push_str(" or")?;
         }
-        for change in way {
-            push_change(alloc, &mut text, change)?;
-        }
+        push_changes(alloc, &mut text, way.as_slice())?;
     }
     Ok(text)
 }

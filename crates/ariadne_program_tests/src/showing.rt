@@ -109,7 +109,7 @@ fn location_text(alloc: Global, location: Location) -> Result<String, AllocError
     }
 }
 
-/// Adds texts, each behind a word.
+/// Adds texts, each in a row behind a word.
 fn push_texts(
     alloc: Global,
     text: &mut String,
@@ -117,10 +117,14 @@ fn push_texts(
     all: &[String],
 ) -> Result<(), AllocError> {
     for said in all {
-        let said = said.as_str();
-        text.push_str(format!(in alloc; "  {word} {said}\n")?.as_str())?;
+        push_text(alloc, text, word, said.as_str())?;
     }
     Ok(())
+}
+
+/// Adds the row of a text behind a word.
+fn push_text(alloc: Global, text: &mut String, word: &str, said: &str) -> Result<(), AllocError> {
+    text.push_str(format!(in alloc; "  {word} {said}\n")?.as_str())
 }
 
 /// Adds a row for each proposal.
@@ -139,12 +143,21 @@ fn push_proposals(alloc: Global, text: &mut String, all: &[Proposal]) -> Result<
 }
 
 /// Adds changes.
-fn push_changes(alloc: Global, text: &mut String, changes: &[Change]) -> Result<(), AllocError> {
+pub fn push_changes(
+    alloc: Global,
+    text: &mut String,
+    changes: &[Change],
+) -> Result<(), AllocError> {
     for change in changes {
-        let start = location_text(alloc, change.start)?;
-        let end = location_text(alloc, change.end)?;
-        let put_in = change.put_in.as_str();
-        text.push_str(format!(in alloc; " {start}-{end} `{put_in}`")?.as_str())?;
+        text.push_str(change_text(alloc, change)?.as_str())?;
     }
     Ok(())
+}
+
+/// A change, with a blank in front.
+fn change_text(alloc: Global, change: &Change) -> Result<String, AllocError> {
+    let start = location_text(alloc, change.start)?;
+    let end = location_text(alloc, change.end)?;
+    let put_in = change.put_in.as_str();
+    format!(in alloc; " {start}-{end} `{put_in}`")
 }
