@@ -124,17 +124,19 @@ def harmless():
             yield name
 
 
-def attacked(attack):
-    """The lines that go through, with an attack in each, and a row behind each."""
-    return b"".join(b"%s\n%s\n" % (line.encode().replace(b"{}", attack), SEEN.encode()) for line in LINES)
+def attacked(*attacks):
+    """The lines that go through, with each attack in each of them, and a row behind each."""
+    pairs = ((attack, line.encode()) for attack in attacks for line in LINES)
+    return b"".join(b"%s\n%s\n" % (line.replace(b"{}", attack), SEEN.encode()) for attack, line in pairs)
 
 
-def faults_of(output):
-    """What an output did to a terminal beside showing rows. Tabs stay."""
+def faults_of(output, count=1):
+    """What an output of so many attacks did to a terminal beside showing rows. Tabs stay."""
     text = output.decode("utf-8", "replace")
     screen = terminal.shown(text.replace("\t", " "))
     yield from screen.misused
     for kind in (terminal.Terminal(), terminal.Terminal(background=(0, 0, 0))):
         seen = terminal.shown(text.replace("\t", " "), kind).text()
-        if seen.count(SEEN) != len(LINES):
-            yield f"{len(LINES) - seen.count(SEEN)} rows behind it are not seen"
+        missed = count * len(LINES) - seen.count(SEEN)
+        if missed:
+            yield f"{missed} rows behind it are not seen"
