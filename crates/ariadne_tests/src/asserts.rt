@@ -90,11 +90,18 @@ pub(crate) fn labelled<'a>(
     labels: &[(usize, usize, &str)],
 ) -> Result<Report<'a>, AllocError> {
     let mut builder = builder;
-    for &(start, end, message) in labels {
-        let label = Label::new(start..end.max(start)).with_message(rt.alloc(), message)?;
-        builder = builder.with_label(label)?;
+    for label in labels {
+        builder.add_label(label_of(rt.alloc(), *label)?)?;
     }
     Ok(builder.finish())
+}
+
+/// Such a label.
+fn label_of(
+    alloc: Global,
+    (start, end, message): (usize, usize, &str),
+) -> Result<Label, AllocError> {
+    Label::new(start..end.max(start)).with_message(alloc, message)
 }
 
 /// The same as `labelled`, of labels in the sources of these ids.
@@ -104,11 +111,18 @@ pub(crate) fn labelled_in<'a>(
     labels: &[(&'static str, usize, usize, &str)],
 ) -> Result<Report<'a, Piece>, AllocError> {
     let mut builder = builder;
-    for &(id, start, end, message) in labels {
-        let label = Label::new((id, start..end.max(start))).with_message(rt.alloc(), message)?;
-        builder = builder.with_label(label)?;
+    for label in labels {
+        builder.add_label(label_in(rt.alloc(), *label)?)?;
     }
     Ok(builder.finish())
+}
+
+/// Such a label.
+fn label_in(
+    alloc: Global,
+    (id, start, end, message): (&'static str, usize, usize, &str),
+) -> Result<Label<Piece>, AllocError> {
+    Label::new((id, start..end.max(start))).with_message(alloc, message)
 }
 
 /// The picture that a report writes over a cache, and the labels that it leaves out.
@@ -164,17 +178,24 @@ pub(crate) fn assert_shown(
     rows: &[&str],
     is_whole: bool,
 ) -> Result<(), Mismatch> {
-    let expected = joined(rt.alloc(), rows)?;
-    let is_shown = if is_whole {
-        picture == expected.as_str()
-    } else {
-        let trimmed = trimmed(rt.alloc(), picture)?;
-        picture.ends_with('\n') && trimmed.as_str() == expected.as_str()
-    };
-    if is_shown {
+    if has_rows(rt.alloc(), picture, rows, is_whole)? {
         return Ok(());
     }
     Err(Mismatch::Picture(picture.to_string(rt.alloc())?))
+}
+
+/// Whether a picture has these rows, and each of them whole, or but for the blanks at their ends.
+fn has_rows(
+    alloc: Global,
+    picture: &str,
+    rows: &[&str],
+    is_whole: bool,
+) -> Result<bool, AllocError> {
+    let expected = joined(alloc, rows)?;
+    if is_whole {
+        return Ok(picture == expected.as_str());
+    }
+    Ok(picture.ends_with('\n') && trimmed(alloc, picture)? == expected)
 }
 
 /// Asserts that a picture has these rows, but for the blanks at their ends.
@@ -195,16 +216,21 @@ pub(crate) fn assert_left_out<E>(
         return Err(Mismatch::Count(left_out.len()));
     }
     for (left, want) in left_out.iter().zip(wanted) {
-        let why = match left.reason {
-            Reason::Unfetched(_) => Why::Unfetched,
-            Reason::PastSource => Why::PastSource,
-            Reason::CutsCharacter => Why::CutsCharacter,
-        };
+        let why = why_of(&left.reason);
         if (left.label, why) != *want {
             return Err(Mismatch::Label(left.label, why));
         }
     }
     Ok(())
+}
+
+/// A reason without what the cache said.
+fn why_of<E>(reason: &Reason<E>) -> Why {
+    match reason {
+        Reason::Unfetched(_) => Why::Unfetched,
+        Reason::PastSource => Why::PastSource,
+        Reason::CutsCharacter => Why::CutsCharacter,
+    }
 }
 
 /// Asserts that all these labels are left out since their sources can't be had, and what is said of
@@ -218,10 +244,7 @@ pub(crate) fn assert_unknown(
         return Err(Mismatch::Count(left_out.len()));
     }
     for (left, want) in left_out.iter().zip(wanted) {
-        let text = match &left.reason {
-            Reason::Unfetched(error) => error.to_string(rt.alloc())?,
-            _ => String::new(rt.alloc()),
-        };
+        let text = said_of(rt.alloc(), &left.reason)?;
         if text.as_str() != *want {
             return Err(Mismatch::Said(text));
         }
@@ -229,17 +252,39 @@ pub(crate) fn assert_unknown(
     Ok(())
 }
 
-/// Asserts that over a text a report leaves no label out, and that its picture has these rows, and
-/// each of them whole.
+/// What a cache said of a source that can't be had.
+fn said_of(alloc: Global, reason: &Reason<UnknownSource>) -> Result<String, AllocError> {
+    match reason {
+        Reason::Unfetched(error) => error.to_string(alloc),
+        Reason::PastSource | Reason::CutsCharacter => Ok(String::new(alloc)),
+    }
+}
+
+/// Asserts that over a text a report was made that leaves no label out, and that its picture has these
+/// rows, and each of them whole.
 pub(crate) fn assert_bytes(
     rt: &impl AllocGlobal,
-    report: &Report<'_>,
+    made: Result<Report<'_>, AllocError>,
     text: &str,
     rows: &[&str],
 ) -> Result<(), Mismatch> {
     let mut source = source_of(rt.alloc(), text)?;
-    let (picture, left_out) = written(rt, report, &mut source)?;
-    assert_left_out(&left_out, &[])?;
+    assert_bytes_over(rt, &made?, &mut source, &[], rows)
+}
+
+/// Asserts that over a cache a report leaves out exactly these labels, and that its picture has these
+/// rows, and each of them whole.
+pub(crate) fn assert_bytes_over<S: Span, C: Cache<S::SourceId>>(
+    rt: &impl AllocGlobal,
+    report: &Report<'_, S>,
+    cache: &mut C,
+    wanted: &[(usize, Why)],
+    rows: &[&str],
+) -> Result<(), Mismatch>
+    requires { C.can_fetch cache.old }
+{
+    let (picture, left_out) = written(rt, report, cache)?;
+    assert_left_out(&left_out, wanted)?;
     assert_shown(rt, picture.as_str(), rows, true)
 }
 

@@ -4,6 +4,15 @@ use crate::asserts::{Mismatch, assert_picture, plain_error};
 use ariadne::{Label, Report, ReportBuilder};
 use std::alloc::{AllocError, Global};
 
+/// Asserts that a report was made, and has these rows over `ab`.
+fn assert_made(
+    rt: &impl AllocGlobal,
+    made: Result<Report<'_>, AllocError>,
+    rows: &[&str],
+) -> Result<(), Mismatch> {
+    assert_picture(rt, &made?, "ab", rows)
+}
+
 /// The picture of two labels added in turn.
 const TWO: &[&str] = &[
     "Error: m",
@@ -45,21 +54,26 @@ fn with_labels(alloc: Global) -> Result<Report<'static>, AllocError> {
 
 #[test]
 fn labels_stand_behind_those_that_are_there(rt: HostRuntime) -> Result<(), Mismatch> {
-    assert_picture(&rt, &with_labels(rt.alloc())?, "ab", TWO)
+    assert_made(&rt, with_labels(rt.alloc()), TWO)
+}
+
+/// Adds both by reference, and then none.
+fn add_both(alloc: Global, builder: &mut ReportBuilder<'_>) -> Result<(), AllocError> {
+    builder.add_label(first(alloc)?)?;
+    builder.add_labels([second(alloc)?])?;
+    builder.add_labels([])
 }
 
 /// The same by calls by reference.
 fn with_added_labels(alloc: Global) -> Result<Report<'static>, AllocError> {
     let mut builder = begun(alloc)?;
-    builder.add_label(first(alloc)?)?;
-    builder.add_labels([second(alloc)?])?;
-    builder.add_labels([])?;
+    add_both(alloc, &mut builder)?;
     Ok(builder.finish())
 }
 
 #[test]
 fn added_labels_stand_behind_those_that_are_there(rt: HostRuntime) -> Result<(), Mismatch> {
-    assert_picture(&rt, &with_added_labels(rt.alloc())?, "ab", TWO)
+    assert_made(&rt, with_added_labels(rt.alloc()), TWO)
 }
 
 /// The picture of a report with three helps and two notes, which are numbered since there are
@@ -84,9 +98,14 @@ const ASIDES: &[&str] = &[
     "---'",
 ];
 
-/// The report with these.
+/// The report in the making with a help and a note.
+fn with_aside(alloc: Global, note: &str) -> Result<ReportBuilder<'static>, AllocError> {
+    labelled(alloc)?.with_help("a")?.with_note(note)
+}
+
+/// The report with all of these.
 fn with_asides(alloc: Global) -> Result<Report<'static>, AllocError> {
-    let mut builder = labelled(alloc)?.with_help("a")?.with_note("d")?;
+    let mut builder = with_aside(alloc, "d")?;
     builder.with_helps(["b", "c"])?;
     builder.with_notes(["e"])?;
     Ok(builder.finish())
@@ -94,7 +113,7 @@ fn with_asides(alloc: Global) -> Result<Report<'static>, AllocError> {
 
 #[test]
 fn helps_and_notes_stand_behind_those_that_are_there(rt: HostRuntime) -> Result<(), Mismatch> {
-    assert_picture(&rt, &with_asides(rt.alloc())?, "ab", ASIDES)
+    assert_made(&rt, with_asides(rt.alloc()), ASIDES)
 }
 
 /// The picture of the report with a help and a note.
@@ -114,7 +133,7 @@ const ASIDE: &[&str] = &[
 
 /// The report with these, set in place of others.
 fn with_set_asides(alloc: Global) -> Result<Report<'static>, AllocError> {
-    let mut builder = labelled(alloc)?.with_help("a")?.with_note("c")?;
+    let mut builder = with_aside(alloc, "c")?;
     builder.set_help("b")?;
     builder.set_note("d")?;
     Ok(builder.finish())
@@ -124,5 +143,5 @@ fn with_set_asides(alloc: Global) -> Result<Report<'static>, AllocError> {
 fn a_help_or_a_note_that_is_set_takes_the_place_of_those_before(
     rt: HostRuntime,
 ) -> Result<(), Mismatch> {
-    assert_picture(&rt, &with_set_asides(rt.alloc())?, "ab", ASIDE)
+    assert_made(&rt, with_set_asides(rt.alloc()), ASIDE)
 }

@@ -8,6 +8,7 @@ use crate::asserts::{
 };
 use crate::comparing::assert_same;
 use ariadne::{Cache, Label, Report, Source, SourceMap, Span, UnknownSource, sources};
+use std::ops::Range;
 use std::process::Abort;
 use std::rc::RcStr;
 
@@ -151,12 +152,14 @@ fn a_report_is_drawn_alike_over_a_pair_that_lends_its_source_or_has_it(rt: HostR
 /// Labels, of which the first is in a source that there isn't.
 const LOST: &[(&str, usize, usize, &str)] = &[("z", 0, 1, "lost"), ("x", 1, 2, "q")];
 
+/// Which of them is left out over a cache of `x` alone.
+const FIRST: &[(usize, Why)] = &[(0, Why::Unfetched)];
+
 /// Asserts that over a cache of `x` alone the first of them is left out, and the second drawn.
 fn assert_second<C: Cache<&'static str>>(rt: &(impl Abort + AllocGlobal), cache: &mut C)
     requires { C.can_fetch cache.old }
 {
-    let report = report_at(rt, "x", LOST);
-    assert_over(rt, &report, cache, &[(0, Why::Unfetched)], SECOND)
+    assert_over(rt, &report_at(rt, "x", LOST), cache, FIRST, SECOND)
 }
 
 #[test]
@@ -206,9 +209,14 @@ const WHOLE: &[&str] = &[
     "---'",
 ];
 
+/// The report of this label, whose id is a `String`.
+fn report_by_string(rt: &(impl Abort + AllocGlobal)) -> Report<'static, (String, Range<usize>)> {
+    one_label(rt, (owned(rt, "x"), 1..1), (owned(rt, "x"), 0..2), "m")
+}
+
 #[test]
 fn ids_may_be_strings(rt: HostRuntime) {
-    let report = one_label(&rt, (owned(&rt, "x"), 1..1), (owned(&rt, "x"), 0..2), "m");
+    let report = report_by_string(&rt);
     assert_over(&rt, &report, &mut map_of_string(&rt), &[], WHOLE)
 }
 
@@ -244,9 +252,12 @@ fn a_source_that_a_map_lacks_is_named(rt: HostRuntime) {
     assert_trimmed(&rt, picture.as_str(), TWO).expect(&rt, "the picture")
 }
 
+/// A label in a source that a pair of `a` lacks.
+const OTHER: &[(&str, usize, usize, &str)] = &[("b", 0, 1, "m")];
+
 #[test]
 fn a_pair_has_no_source_of_another_id(rt: HostRuntime) {
-    let report = report_at(&rt, "a", &[("b", 0, 1, "m")]);
+    let report = report_at(&rt, "a", OTHER);
     let said = "Failed to fetch source 'b'";
     let picture = picture_without(&rt, &report, &mut ("a", source(&rt)), 0, said);
     assert_same(&rt, &picture.as_str(), &"Error: \n")

@@ -58,7 +58,7 @@ fn colored(alloc: Global) -> Result<Report<'static>, AllocError> {
 
 #[test]
 fn a_report_is_in_colors_where_none_says_otherwise(rt: HostRuntime) -> Result<(), Mismatch> {
-    assert_bytes(&rt, &colored(rt.alloc())?, "", &["\x1b[31mError:\x1b[0m m"])
+    assert_bytes(&rt, colored(rt.alloc()), "", &["\x1b[31mError:\x1b[0m m"])
 }
 
 /// The rows of a label whose report has no colours, with the blanks at their ends.
@@ -82,5 +82,5 @@ fn configured(alloc: Global) -> Result<Report<'static>, AllocError> {
 
 #[test]
 fn a_configuration_behind_a_label_takes_its_color_away(rt: HostRuntime) -> Result<(), Mismatch> {
-    assert_bytes(&rt, &configured(rt.alloc())?, "a", ROWS)
+    assert_bytes(&rt, configured(rt.alloc()), "a", ROWS)
 }

@@ -1,9 +1,7 @@
 //! The greatest numbers.
 
-use crate::asserts::{
-    Mismatch, Why, assert_left_out, assert_shown, plain, plain_error, source_of, written,
-};
-use ariadne::{Config, Label, Report, ReportKind, WriteError};
+use crate::asserts::{Mismatch, Why, assert_bytes_over, plain, plain_error, source_of};
+use ariadne::{Config, Label, Report, ReportKind, Source, WriteError};
 use std::alloc::{AllocError, Global};
 use std::ops::RangeInclusive;
 use std::process::Abort;
@@ -17,10 +15,10 @@ fn greatest(alloc: Global) -> Result<Report<'static, RangeInclusive<usize>>, All
 
 #[test]
 fn a_span_up_to_the_greatest_offset_is_past_its_source(rt: HostRuntime) -> Result<(), Mismatch> {
+    let report = greatest(rt.alloc())?;
     let mut source = source_of(rt.alloc(), "ab")?;
-    let (picture, left_out) = written(&rt, &greatest(rt.alloc())?, &mut source)?;
-    assert_left_out(&left_out, &[(0, Why::PastSource)])?;
-    assert_shown(&rt, picture.as_str(), &["Error: "], true)
+    let left_out = [(0, Why::PastSource)];
+    assert_bytes_over(&rt, &report, &mut source, &left_out, &["Error: "])
 }
 
 /// A report with this configuration, and the greatest tab.
@@ -30,13 +28,18 @@ fn tabbed(alloc: Global, config: Config) -> Result<Report<'static>, AllocError> 
     Ok(builder.with_label(label)?.finish())
 }
 
-/// Asserts that there is no memory for its picture, of which nothing is sent.
+/// Whether there is no memory for the picture of a report over a source, of which nothing is sent.
+fn lacks_memory(alloc: Global, report: &Report<'_>, source: &mut Source<String>) -> bool {
+    let mut out = Vec::new(alloc);
+    let answer = report.write(source, &mut out);
+    matches!(answer, Err(WriteError::Memory(_))) && out.is_empty()
+}
+
+/// Asserts that there is none for the greatest tab.
 fn assert_no_memory(rt: &(impl Abort + AllocGlobal), config: Config) {
     let report = tabbed(rt.alloc(), config).expect(rt, "memory");
     let mut source = source_of(rt.alloc(), "\tx").expect(rt, "memory");
-    let mut out = Vec::new(rt.alloc());
-    let answer = report.write(&mut source, &mut out);
-    assert!(rt; matches!(answer, Err(WriteError::Memory(_))) && out.is_empty())
+    assert!(rt; lacks_memory(rt.alloc(), &report, &mut source))
 }
 
 #[test]

@@ -17,6 +17,19 @@ fn report_of_file<'p>(
     one_label(rt, (path, 0..0), (path, 1..2), "q")
 }
 
+/// The rows of its picture, by its header and the row of the source.
+fn rows_of<'r>(header: &'r str, row: &'r str) -> [&'r str; 7] {
+    [
+        "Error:",
+        header,
+        "   |",
+        row,
+        "   |  |",
+        "   |  `-- q",
+        "---'",
+    ]
+}
+
 /// Asserts that of the file at a path the second character is drawn, in this row.
 fn assert_file<R: Files + Drop>(
     rt: &(impl Abort + AllocGlobal),
@@ -25,16 +38,13 @@ fn assert_file<R: Files + Drop>(
     row: &str,
 ) {
     let header = format!(in rt.alloc(); "   ,-[ {path}:1:1 ]").expect(rt, "memory");
-    let rows = [
-        "Error:",
-        header.as_str(),
-        "   |",
-        row,
-        "   |  |",
-        "   |  `-- q",
-        "---'",
-    ];
+    let rows = rows_of(header.as_str(), row);
     assert_over(rt, &report_of_file(rt, path), cache, &[], &rows)
+}
+
+/// Asserts the same over a new cache.
+fn assert_file_anew(rt: &(impl Abort + AllocGlobal + Files), path: &str, row: &str) {
+    assert_file(rt, &mut FileCache::new(rt, rt.alloc()), path, row)
 }
 
 /// Asserts that the file at a path is drawn as it was first read, by each cache.
@@ -43,7 +53,7 @@ fn assert_read_once(rt: &(impl Abort + AllocGlobal + Files), path: &str) {
     assert_file(rt, &mut cache, path, " 1 | ab");
     fs::write(rt, path, "cd").expect(rt, "a file");
     assert_file(rt, &mut cache, path, " 1 | ab");
-    assert_file(rt, &mut FileCache::new(rt, rt.alloc()), path, " 1 | cd")
+    assert_file_anew(rt, path, " 1 | cd")
 }
 
 #[test]

@@ -147,7 +147,10 @@ fn a_function_is_called_until_it_returns_a_text(rt: HostRuntime) {
     }
 }
 
-/// The picture of the label that is not on `z`.
+/// Labels, of which the first is in a source that can't be had.
+const LOST: &[(&str, usize, usize, &str)] = &[("z", 0, 1, "l"), ("x", 0, 1, "m")];
+
+/// The picture of the other.
 const ONE: &[&str] = &[
     "Error:",
     "   ,-[ x:1:1 ]",
@@ -173,7 +176,7 @@ fn the_sources_of_labels_are_fetched_and_that_of_the_report_is_not(rt: HostRunti
             if *id == "z" { Err(7) } else { Ok("ab") }
         },
     );
-    let report = report_at(&rt, "r", &[("z", 0, 1, "l"), ("x", 0, 1, "m")]);
+    let report = report_at(&rt, "r", LOST);
     assert_over(&rt, &report, &mut cache, &[(0, Why::Unfetched)], ONE);
     assert_same(&rt, &calls.get(), &2);
     let held = (holds(&cache, "x"), holds(&cache, "z"), holds(&cache, "r"));

@@ -40,11 +40,18 @@ fn builder(
     labels: Labels,
 ) -> Result<ReportBuilder<'static, Piece>, AllocError> {
     let mut builder = plain_error_at(alloc, ("one", 0..0)).with_config(config);
-    for &(id, start, end) in labels {
-        let label = Label::new((id, start..end.max(start))).with_message(alloc, "m")?;
-        builder = builder.with_label(label)?;
+    for label in labels {
+        builder.add_label(label_of(alloc, *label)?)?;
     }
     Ok(builder)
+}
+
+/// One of the labels.
+fn label_of(
+    alloc: Global,
+    (id, start, end): (&'static str, usize, usize),
+) -> Result<Label<Piece>, AllocError> {
+    Label::new((id, start..end.max(start))).with_message(alloc, "m")
 }
 
 /// The columns of a report in the making.

@@ -1,7 +1,7 @@
 //! What a report and its labels say of themselves.
 
 use crate::comparing::{assert_same, assert_text};
-use ariadne::{Color, Config, IndexType, Label, LabelAttach, Report, ReportKind};
+use ariadne::{Color, Config, IndexType, Label, LabelAttach, Report, ReportBuilder, ReportKind};
 use std::alloc::{AllocError, Global};
 use std::process::Abort;
 
@@ -16,15 +16,20 @@ fn full(alloc: Global) -> Result<Label, AllocError> {
     )
 }
 
-/// A report with all that a report may have.
-fn report(alloc: Global) -> Result<Report<'static>, AllocError> {
-    let builder = Report::build(alloc, ReportKind::Custom("Hint", Color::Red), 2..2)
+/// A report in the making with all that stands above its labels.
+fn headed(alloc: Global) -> Result<ReportBuilder<'static>, AllocError> {
+    Report::build(alloc, ReportKind::Custom("Hint", Color::Red), 2..2)
         .with_config(Config::new().with_index_type(IndexType::Byte))
         .with_code(7)?
-        .with_message("odd")?
-        .with_label(full(alloc)?)?
-        .with_note("see there")?
-        .with_help("turn it")?;
+        .with_message("odd")
+}
+
+/// A report with all that a report may have.
+fn report(alloc: Global) -> Result<Report<'static>, AllocError> {
+    let mut builder = headed(alloc)?;
+    builder.add_label(full(alloc)?)?;
+    builder.add_note("see there")?;
+    builder.add_help("turn it")?;
     Ok(builder.finish())
 }
 

@@ -4,7 +4,7 @@
 use crate::asserts::{assert_trimmed, plain, plain_error, source_of};
 use crate::refused::{MOST_REQUESTS, assert_refused, refuse_at};
 use crate::refused_pictures::assert_answer;
-use ariadne::{Label, Report, Source};
+use ariadne::{Label, Report, ReportBuilder, Source};
 use std::alloc::{AllocError, Global};
 use std::process::Abort;
 
@@ -36,13 +36,19 @@ const CUT_ROWS: &[&str] = &[
     "---'",
 ];
 
-/// The report with these labels.
-fn crowded(alloc: Global) -> Result<Report<'static>, AllocError> {
-    let label = Label::new(0..1).with_message(alloc, "m")?;
-    let mut builder = plain_error(alloc).with_label(label)?;
+/// Adds the labels that say nothing.
+fn add_silent(builder: &mut ReportBuilder<'_>) -> Result<(), AllocError> {
     for _ in 0..SILENT {
         builder.add_label(Label::new(0..1))?;
     }
+    Ok(())
+}
+
+/// The report with all these labels.
+fn crowded(alloc: Global) -> Result<Report<'static>, AllocError> {
+    let label = Label::new(0..1).with_message(alloc, "m")?;
+    let mut builder = plain_error(alloc).with_label(label)?;
+    add_silent(&mut builder)?;
     Ok(builder.finish())
 }
 

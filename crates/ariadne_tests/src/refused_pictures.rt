@@ -72,14 +72,17 @@ fn text_of(id: &&str) -> Result<&'static str, u8> {
     }
 }
 
-/// A report without labels yet, which points at a source that no label is in.
-fn begun(alloc: Global, config: Config) -> Result<ReportBuilder<'static, Piece>, AllocError> {
+/// A report with a header alone, which points at a source that no label is in.
+fn headed(alloc: Global, config: Config) -> Result<ReportBuilder<'static, Piece>, AllocError> {
     Report::build(alloc, ReportKind::Error, ("r", 0..0))
         .with_config(config)
         .with_code(3)?
-        .with_message("m")?
-        .with_help("h")?
-        .with_note("n\nk")
+        .with_message("m")
+}
+
+/// The same with a help and a note.
+fn begun(alloc: Global, config: Config) -> Result<ReportBuilder<'static, Piece>, AllocError> {
+    headed(alloc, config)?.with_help("h")?.with_note("n\nk")
 }
 
 /// A label of the report.
