@@ -15,7 +15,7 @@ use ariadne_parse::{Diagnostic, Span};
 use std::alloc::{AllocError, Global};
 
 /// A diagnostic whose lines are being read.
-#[derive(Debug, Drop)]
+#[derive(Drop)]
 pub struct Block {
     /// What it tells so far.
     pub(crate) parsed: Diagnostic,
@@ -43,7 +43,7 @@ pub struct Block {
 }
 
 /// A text beside the message.
-#[derive(Clone, Copy, Debug, PartialEq, Eq)]
+#[derive(Clone, Copy)]
 pub(crate) enum Aside {
     /// A note.
     Note,

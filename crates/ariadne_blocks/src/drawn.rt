@@ -13,7 +13,7 @@ use ariadne_parse::{End, Location, Span};
 use std::alloc::{AllocError, Global};
 
 /// Marks that were drawn.
-#[derive(Debug, Drop)]
+#[derive(Drop)]
 pub struct Drawn {
     /// The file.
     pub(crate) file: String,

@@ -20,7 +20,7 @@ ghost use Rattle.ariadne_parse.specs.TextPieces.{split_once};
 ghost use Rattle.ariadne_blocks.specs.Events as events;
 
 /// What a row of events is.
-#[derive(Clone, Copy, Debug, PartialEq, Eq)]
+#[derive(Clone, Copy)]
 pub(crate) enum EventRow<'a> {
     /// A head, a bar, or where a function returns: it tells nothing.
     Frame,

@@ -15,7 +15,7 @@ use ariadne_snippets::{Fix, FixKind, Point};
 use std::alloc::{AllocError, Global};
 
 /// A change that rows below a line have told: in which line it is, and whether that only removes something.
-#[derive(Clone, Copy, Debug)]
+#[derive(Clone, Copy)]
 pub(crate) struct ParsedChange {
     /// The line.
     pub(crate) line: usize,
@@ -150,7 +150,7 @@ pub(crate) fn column_of(row: &FixRow<'_>) -> usize
 }
 
 /// How far an escape was read.
-#[derive(Clone, Copy, Debug)]
+#[derive(Clone, Copy)]
 enum Escape {
     /// None is open.
     Closed,

@@ -19,7 +19,7 @@ use crate::message::{had_no_room, is_of_python, width_of};
 use ariadne_parse::Span;
 
 /// How a message may go on in the next line.
-#[derive(Clone, Copy, Debug)]
+#[derive(Clone, Copy)]
 pub(crate) enum GoesOn {
     /// It may not.
     Nowhere,

@@ -15,7 +15,7 @@ const MESSAGE_WIDTH: usize = 80;
 const ROOM: usize = 79;
 
 /// A line that may go on with a message.
-#[derive(Debug, Drop)]
+#[derive(Drop)]
 pub struct MessageLine {
     /// Its bytes, with what ends it.
     pub bytes: Vec<u8>,

@@ -20,7 +20,7 @@ use ariadne_snippets::{Label, Mark, Point, Snippet};
 use std::alloc::{AllocError, Global};
 
 /// The rows below a head or a note, as far as they were read.
-#[derive(Debug, Drop)]
+#[derive(Drop)]
 pub(crate) struct Rows {
     /// The snippet.
     pub(crate) snippet: Snippet,

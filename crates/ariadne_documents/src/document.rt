@@ -31,7 +31,7 @@ pub enum Step {
 }
 
 /// A document of JSON of which the first lines were taken.
-#[derive(Debug, Drop)]
+#[derive(Drop)]
 pub struct Document {
     bytes: Vec<u8>,
     opened: usize,

@@ -19,7 +19,7 @@ use serde_json::Value;
 use std::alloc::{AllocError, Global};
 
 /// The form of a document. Those of rustc and gcc are told by `ariadne_parse::parsed_by_value`.
-#[derive(Clone, Copy, Debug, PartialEq, Eq)]
+#[derive(Clone, Copy, PartialEq, Eq)]
 pub enum Form {
     /// A log of SARIF 2.1.0.
     Sarif,

@@ -6,7 +6,7 @@ ghost use Rattle.ariadne_documents.specs.Offsets as offsets;
 use ariadne_parse::Location;
 
 /// How far a walk through a text has come.
-#[derive(Clone, Copy, Debug)]
+#[derive(Clone, Copy)]
 struct Walk {
     /// How many units of UTF-16 are left.
     left: usize,

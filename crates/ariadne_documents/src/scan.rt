@@ -5,7 +5,7 @@ ghost use Rattle.ariadne_json.specs.Mended.{closes as is_closing, opens as is_op
 ghost use Rattle.ariadne_documents.specs.Brackets as brackets;
 
 /// Within what a byte of JSON stands.
-#[derive(Clone, Copy, Debug, PartialEq, Eq)]
+#[derive(Clone, Copy)]
 pub(crate) enum Within {
     /// In no text in quotes.
     Nothing,
@@ -16,7 +16,7 @@ pub(crate) enum Within {
 }
 
 /// What is known of a part of a text of JSON.
-#[derive(Clone, Copy, Debug)]
+#[derive(Clone, Copy)]
 pub(crate) struct Scan {
     /// Within what the next byte stands.
     pub(crate) within: Within,

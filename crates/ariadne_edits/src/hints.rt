@@ -15,7 +15,7 @@ use std::alloc::{AllocError, Global};
 
 /// A piece of the source that stays: where it begins and ends there, and where it begins in the edited
 /// text. Offsets count bytes.
-#[derive(Clone, Copy, Debug)]
+#[derive(Clone, Copy)]
 struct Stay {
     start: usize,
     end: usize,
@@ -139,7 +139,7 @@ fn stays(
 }
 
 /// What a change has in common with what it replaces, in bytes.
-#[derive(Clone, Copy, Debug)]
+#[derive(Clone, Copy)]
 struct Trim {
     /// How many bytes are the same in front.
     front: usize,

@@ -46,7 +46,7 @@ pub enum Row {
 }
 
 /// The lines that change between two that are kept.
-#[derive(Clone, Copy, Debug)]
+#[derive(Clone, Copy)]
 struct Run {
     /// The first line of the source, and one past the last.
     old_from: usize,

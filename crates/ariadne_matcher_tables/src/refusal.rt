@@ -39,7 +39,7 @@ pub enum Refusal {
 }
 
 /// What a member has to be.
-#[derive(Clone, Copy, Debug, PartialEq, Eq)]
+#[derive(Clone, Copy, Debug)]
 pub enum Wanted {
     /// A text.
     Text,
@@ -69,7 +69,7 @@ impl fmt::Display for Wanted {
 }
 
 /// The words that a member may be.
-#[derive(Clone, Copy, Debug, PartialEq, Eq)]
+#[derive(Clone, Copy, Debug)]
 pub enum Choices {
     /// What columns count.
     Units,

@@ -10,7 +10,7 @@ use crate::entry::Groups;
 use regex::{Captures, Matcher};
 
 /// A text in a line.
-#[derive(Clone, Copy, Debug)]
+#[derive(Clone, Copy)]
 pub struct Piece<'l> {
     /// What stands in front of it there.
     pub front: &'l str,
@@ -19,7 +19,7 @@ pub struct Piece<'l> {
 }
 
 /// What a row caught of a line, by the names of its groups.
-#[derive(Clone, Copy, Debug)]
+#[derive(Clone, Copy)]
 pub struct Caught<'l> {
     /// The line.
     pub row: &'l str,

@@ -4,7 +4,7 @@ use crate::measure::Measure;
 use regex::Regex;
 
 /// How bad a diagnostic is.
-#[derive(Clone, Copy, Debug, PartialEq, Eq)]
+#[derive(Clone, Copy, Debug)]
 pub enum Severity {
     /// It stops the tool, or makes it fail.
     Error,
@@ -15,7 +15,7 @@ pub enum Severity {
 }
 
 /// A word by which tools name a severity, in any case of letters.
-#[derive(Debug, Drop)]
+#[derive(Drop)]
 pub struct Word {
     /// The word.
     pub text: String,
@@ -24,7 +24,7 @@ pub struct Word {
 }
 
 /// How many lines a row may fit.
-#[derive(Clone, Copy, Debug, PartialEq, Eq)]
+#[derive(Clone, Copy)]
 pub enum Often {
     /// One line.
     Once,
@@ -37,7 +37,7 @@ pub enum Often {
 }
 
 /// The groups of a pattern, by what they catch. Group 0 is all that fits.
-#[derive(Clone, Copy, Debug)]
+#[derive(Clone, Copy)]
 pub struct Groups {
     /// The name of the file.
     pub file: Option<usize>,
@@ -64,7 +64,7 @@ pub struct Groups {
 }
 
 /// A row of an entry.
-#[derive(Debug, Drop)]
+#[derive(Drop)]
 pub struct Row {
     /// How many lines it may fit.
     pub often: Often,
@@ -75,7 +75,7 @@ pub struct Row {
 }
 
 /// An entry of a table.
-#[derive(Debug, Drop)]
+#[derive(Drop)]
 pub struct Entry {
     /// What it is called.
     pub name: String,

@@ -12,7 +12,7 @@ ghost use Rattle.ariadne_matchers.specs.Lasts.{number_in, number_of, place_lines
 use crate::caught::{Caught, Piece};
 
 /// A group of patterns, but the message.
-#[derive(Clone, Copy, Debug)]
+#[derive(Clone, Copy)]
 pub(crate) enum Group {
     File,
     Line,

@@ -20,7 +20,7 @@ use std::alloc::{AllocError, Global};
 const LETTERS: usize = 256;
 
 /// Marks below what a tool quotes of a line. Columns count from 0.
-#[derive(Debug, Drop)]
+#[derive(Drop)]
 pub struct Marks {
     /// The first letters that it quotes, without blanks around them.
     pub letters: Vec<char>,

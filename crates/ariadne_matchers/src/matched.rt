@@ -14,7 +14,7 @@ use crate::severities::severity;
 use std::alloc::{AllocError, Global};
 
 /// Where a diagnostic begins in its line.
-#[derive(Clone, Copy, Debug, PartialEq, Eq)]
+#[derive(Clone, Copy)]
 pub enum Begin {
     /// At this column, from 1.
     Column(usize),
@@ -25,7 +25,7 @@ pub enum Begin {
 }
 
 /// A line of a file, and a column of it, if one is told. Both count from 1.
-#[derive(Clone, Copy, Debug, PartialEq, Eq)]
+#[derive(Clone, Copy, PartialEq, Eq)]
 pub struct End {
     /// The line.
     pub line: usize,
@@ -34,7 +34,7 @@ pub struct End {
 }
 
 /// A diagnostic as lines tell it. Its columns are those of the entry.
-#[derive(Debug, Drop)]
+#[derive(Drop)]
 pub struct Matched {
     /// How bad it is.
     pub severity: Severity,

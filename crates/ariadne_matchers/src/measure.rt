@@ -3,7 +3,7 @@
 ghost use Rattle.std.specs.Prelude.{◌≤◌};
 
 /// What a column counts, but at tabs.
-#[derive(Clone, Copy, Debug, PartialEq, Eq)]
+#[derive(Clone, Copy)]
 pub enum Unit {
     /// Characters.
     Characters,
@@ -16,7 +16,7 @@ pub enum Unit {
 }
 
 /// What a column counts.
-#[derive(Clone, Copy, Debug)]
+#[derive(Clone, Copy)]
 pub struct Measure {
     /// What it counts, but at tabs.
     pub unit: Unit,

@@ -9,7 +9,7 @@ use crate::measure::Measure;
 use ariadne_parse::Columns;
 
 /// Where a diagnostic stands in the text of its file. Lines and columns count from 1, columns count characters.
-#[derive(Clone, Copy, Debug, PartialEq, Eq)]
+#[derive(Clone, Copy)]
 pub struct Placed {
     /// The line.
     pub line: usize,

@@ -19,7 +19,7 @@ use crate::table::Table;
 use std::alloc::{AllocError, Global};
 
 /// Lines that an entry fits, with what was caught of them.
-#[derive(Debug, Drop)]
+#[derive(Drop)]
 pub struct Fit<'l> {
     /// The entry's number, from 0.
     pub entry: usize,
@@ -28,7 +28,7 @@ pub struct Fit<'l> {
 }
 
 /// What is known of an entry that lines may fit.
-#[derive(Debug, Drop)]
+#[derive(Drop)]
 pub enum Fitting<'l> {
     /// No entry fits them.
     Nothing,

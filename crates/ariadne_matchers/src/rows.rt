@@ -15,7 +15,7 @@ use std::alloc::{AllocError, Global};
 const LIMIT: usize = 64;
 
 /// What rows take of lines.
-#[derive(Debug, Drop)]
+#[derive(Drop)]
 pub(crate) enum Taken<'l> {
     /// The next line tells.
     Open,

@@ -6,7 +6,7 @@ use crate::entry::{Entry, Word};
 use std::alloc::AllocError;
 
 /// A table of matchers.
-#[derive(Debug, Drop)]
+#[derive(Drop)]
 pub struct Table {
     /// Its entries. The first that fits counts.
     pub entries: Vec<Entry>,

@@ -20,7 +20,7 @@ use std::alloc::{AllocError, Global};
 use std::boxed::Box;
 
 /// An entry by its number in its table, from 0.
-#[derive(Clone, Copy, Debug, PartialEq, Eq)]
+#[derive(Clone, Copy, PartialEq, Eq)]
 pub enum EntryAt {
     /// In people's own.
     Own(usize),
@@ -48,7 +48,7 @@ impl EntryAt {
 }
 
 /// What is known of the entries that lines may fit.
-#[derive(Debug, Drop)]
+#[derive(Drop)]
 pub enum Search<'l> {
     /// None fits them.
     Nothing,
@@ -59,7 +59,7 @@ pub enum Search<'l> {
 }
 
 /// A diagnostic that lines tell, and what its columns count.
-#[derive(Debug, Drop)]
+#[derive(Drop)]
 pub struct Measured {
     /// The diagnostic.
     pub matched: Matched,

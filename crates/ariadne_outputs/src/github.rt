@@ -24,7 +24,7 @@ use ariadne_safe::text::shown_char;
 use std::alloc::{AllocError, Global};
 
 /// What a text is escaped for.
-#[derive(Clone, Copy, Debug, PartialEq, Eq)]
+#[derive(Clone, Copy)]
 pub(crate) enum Role {
     /// A command's message.
     Message,

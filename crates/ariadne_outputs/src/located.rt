@@ -9,7 +9,7 @@ use ariadne_parse::{Location, Severity, Span};
 /// columns count is said where it is asked for.
 ///
 /// The spans of a diagnostic are handed on in a list, of which the first is the one that it is about.
-#[derive(Clone, Copy, Debug)]
+#[derive(Clone, Copy)]
 pub struct Located<'a> {
     /// The span.
     pub span: &'a Span,

@@ -13,7 +13,7 @@ ghost use Rattle.ariadne_outputs.specs.Sequences.{number_in, sequence_in};
 ghost use Rattle.ariadne_outputs.specs.SequenceViews.{sequence_of};
 
 /// A sequence behind its escape character: `[`, its parameters, and `m` or `K`.
-#[derive(Clone, Copy, Debug)]
+#[derive(Clone, Copy)]
 pub(crate) struct Sequence<'a> {
     /// Digits, `:` and `;`.
     pub parameters: &'a str,
@@ -116,7 +116,7 @@ fn are_digits(text: &str) -> bool
 }
 
 /// What the next number of a sequence is.
-#[derive(Clone, Copy, Debug)]
+#[derive(Clone, Copy)]
 pub(crate) enum Awaited {
     /// An attribute of letters, or 38, which begins a colour.
     Attribute,

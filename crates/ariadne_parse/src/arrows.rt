@@ -18,7 +18,7 @@ use crate::unit::Unit;
 use std::alloc::{AllocError, Global};
 
 /// What a line says that names a kind and no span, in pieces of it.
-#[derive(Clone, Copy, Debug)]
+#[derive(Clone, Copy)]
 pub struct BareHead<'a> {
     /// How bad it is.
     pub severity: Severity,
@@ -62,7 +62,7 @@ pub fn bare_head_of(line: &str) -> Option<BareHead<'_>>
 }
 
 /// A span in a line of its own, behind an arrow, in pieces of the line.
-#[derive(Clone, Copy, Debug)]
+#[derive(Clone, Copy)]
 pub struct Arrow<'a> {
     /// The file, as the tool wrote it.
     pub file: &'a str,

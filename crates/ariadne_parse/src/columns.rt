@@ -16,7 +16,7 @@ use std::marker::Model;
 use std::ops::Range;
 
 /// A text, and where its lines begin. Lines end at line feeds alone, as compilers count them.
-#[derive(Debug, Drop)]
+#[derive(Drop)]
 pub struct Columns {
     chars: Vec<char>,
     begins: Vec<usize>,

@@ -7,7 +7,7 @@ use crate::diagnostic::{End, Location};
 use crate::unit::Unit;
 
 /// How columns count.
-#[derive(Clone, Copy, Debug, PartialEq, Eq)]
+#[derive(Clone, Copy)]
 pub struct Counting {
     /// What they count.
     pub unit: Unit,

@@ -13,7 +13,7 @@ use std::alloc::{AllocError, Global};
 use std::ops::Range;
 
 /// How bad a diagnostic is.
-#[derive(Clone, Copy, Debug, PartialEq, Eq)]
+#[derive(Clone, Copy, Debug)]
 pub enum Severity {
     /// It stops the tool, or makes it fail.
     Error,
@@ -43,7 +43,7 @@ impl Severity {
 
 /// A line of a file, and a column of it. Both count from 1. Without a column it is the line from its
 /// start.
-#[derive(Clone, Copy, Debug, PartialEq, Eq)]
+#[derive(Clone, Copy, PartialEq, Eq)]
 pub struct Location {
     /// The line.
     pub line: usize,
@@ -52,7 +52,7 @@ pub struct Location {
 }
 
 /// Where a span ends.
-#[derive(Clone, Copy, Debug, PartialEq, Eq)]
+#[derive(Clone, Copy, PartialEq, Eq)]
 pub enum End {
     /// In front of the character that stands there.
     Before(Location),
@@ -63,7 +63,7 @@ pub enum End {
 }
 
 /// How a span is drawn.
-#[derive(Clone, Copy, Debug, Default, PartialEq, Eq)]
+#[derive(Clone, Copy, Default)]
 pub struct Look {
     /// Its label's order: those of a lower one are drawn first. It is 0 where none is told.
     pub order: i32,
@@ -75,7 +75,7 @@ pub struct Look {
 }
 
 /// A piece of a file, and what is said of it.
-#[derive(Debug, Drop)]
+#[derive(Drop)]
 pub struct Span {
     /// The file's path, as the tool wrote it.
     pub file: String,
@@ -101,7 +101,7 @@ pub struct Span {
 }
 
 /// A kind of the tool's own.
-#[derive(Debug, Drop)]
+#[derive(Drop)]
 pub struct OwnKind {
     /// What it is called.
     pub name: String,
@@ -110,7 +110,7 @@ pub struct OwnKind {
 }
 
 /// A line of a file as a tool quotes it.
-#[derive(Debug, Drop)]
+#[derive(Drop)]
 pub struct QuotedLine {
     /// The file's path, as the tool wrote it.
     pub file: String,
@@ -121,7 +121,7 @@ pub struct QuotedLine {
 }
 
 /// A piece of a file, and the text that is put in its place.
-#[derive(Debug, Drop)]
+#[derive(Drop)]
 pub struct Change {
     /// Where the piece begins.
     pub start: Location,
@@ -132,7 +132,7 @@ pub struct Change {
 }
 
 /// The changes that a tool proposes, in one or several ways, each a list of changes of one file.
-#[derive(Debug, Drop)]
+#[derive(Drop)]
 pub struct Proposal {
     /// The helps that say the same in words: from the first to before the last, by their numbers from 0.
     pub helps: Range<usize>,
@@ -149,7 +149,7 @@ pub struct Proposal {
 }
 
 /// What a tool tells.
-#[derive(Debug, Drop)]
+#[derive(Drop)]
 pub struct Diagnostic {
     /// How bad it is.
     pub severity: Severity,

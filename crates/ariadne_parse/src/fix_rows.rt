@@ -10,7 +10,7 @@ use crate::locations::range;
 use crate::pieces::{behind, behind_text, in_front_of, split_once};
 
 /// What such a row tells, in pieces of it.
-#[derive(Clone, Copy, Debug)]
+#[derive(Clone, Copy)]
 pub struct FixRow<'a> {
     /// The file's path, as it stands in quotes.
     pub file: &'a str,

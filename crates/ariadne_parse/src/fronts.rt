@@ -19,7 +19,7 @@ use crate::unit::Unit;
 use std::alloc::{AllocError, Global};
 
 /// What a line in front of a diagnostic tells, in pieces of it.
-#[derive(Clone, Copy, Debug)]
+#[derive(Clone, Copy)]
 pub struct Front<'a> {
     /// The file, as the tool wrote it.
     pub file: &'a str,

@@ -30,7 +30,7 @@ use serde_json::Value;
 use std::alloc::{AllocError, Global};
 
 /// The form of a tool's output.
-#[derive(Clone, Copy, Debug, PartialEq, Eq)]
+#[derive(Clone, Copy)]
 pub enum Format {
     /// Each line has whichever form it has.
     Auto,
@@ -45,7 +45,7 @@ pub enum Format {
 }
 
 /// How lines are read.
-#[derive(Clone, Copy, Debug, PartialEq, Eq)]
+#[derive(Clone, Copy)]
 pub struct Reading {
     /// Their form.
     pub format: Format,
@@ -66,7 +66,7 @@ impl Reading {
 }
 
 /// What a line tells.
-#[derive(Debug, Drop)]
+#[derive(Drop)]
 pub enum Answer {
     /// No diagnostic: the line is for the reader as it is.
     Nothing,

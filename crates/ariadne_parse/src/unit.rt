@@ -12,7 +12,7 @@ const TAB_STOP: usize = 8;
 const LAST_OF_ONE: char = '\u{ffff}';
 
 /// What a column counts.
-#[derive(Clone, Copy, Debug, PartialEq, Eq)]
+#[derive(Clone, Copy)]
 pub enum Unit {
     /// The bytes of UTF-8 in front of a character. So clang counts, and gcc in its JSON.
     Byte,

@@ -8,7 +8,7 @@ ghost use Rattle.ariadne_render.specs.Seen.{AreUnseen, AreUnseenFrom, IsSeenNext
 use ariadne_picture::sight::{Part, Sight};
 
 /// A place of a line of which anything is seen.
-#[derive(Clone, Copy, Debug)]
+#[derive(Clone, Copy)]
 pub(crate) struct SeenPlace {
     pub(crate) place: usize,
     /// What is seen of it.

@@ -12,7 +12,7 @@ use ariadne_base::{Source, SourceText};
 const NEAR: usize = 64;
 
 /// A place of a source between two characters: the numbers of bytes and of characters before.
-#[derive(Clone, Copy, Debug)]
+#[derive(Clone, Copy)]
 pub(crate) struct Known {
     pub(crate) bytes: usize,
     pub(crate) chars: usize,

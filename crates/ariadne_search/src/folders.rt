@@ -14,7 +14,7 @@ use std::alloc::{AllocError, Global};
 const MOST: usize = 64;
 
 /// The folders that make has entered and not left, as lines tell it, 64 at most.
-#[derive(Debug, Drop)]
+#[derive(Drop)]
 pub struct Folders {
     entered: Vec<String>,
     alloc: Global,

@@ -7,7 +7,7 @@ ghost use Rattle.ariadne_search.specs.Make.{folder_in as quoted_folder, is_progr
 ghost use Rattle.ariadne_search.specs.Make.{in_front_of_words};
 
 /// Where make says that it goes.
-#[derive(Clone, Copy, Debug)]
+#[derive(Clone, Copy)]
 pub enum Move<'a> {
     /// Into this folder.
     Into(&'a str),

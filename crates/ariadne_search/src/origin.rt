@@ -11,7 +11,7 @@ use std::path::{Path, PathBuf};
 use std::rt::Files;
 
 /// The folder that the program runs in, and the base of names, if one is set.
-#[derive(Debug, Drop)]
+#[derive(Drop)]
 pub struct Origin {
     here: Option<PathBuf>,
     base: Option<String>,

@@ -13,7 +13,7 @@ use std::path::Path;
 const PARENTS: u8 = 64;
 
 /// Where files are looked for beside the folder that the program runs in.
-#[derive(Clone, Copy, Debug)]
+#[derive(Clone, Copy)]
 pub struct Search<'a> {
     /// `--base`: a folder that names may start at.
     pub base: Option<&'a str>,

@@ -3,7 +3,7 @@
 use ariadne_parse::{Reading, Severity};
 
 /// `--color`: when there are colours.
-#[derive(Clone, Copy, PartialEq, Eq)]
+#[derive(Clone, Copy)]
 pub enum Colors {
     /// As the environment asks for them, and else at a terminal.
     Auto,
@@ -14,7 +14,7 @@ pub enum Colors {
 }
 
 /// `--output`: the form in which diagnostics are written.
-#[derive(Clone, Copy, PartialEq, Eq)]
+#[derive(Clone, Copy)]
 pub enum Output {
     /// A picture over its files.
     Picture,
@@ -27,7 +27,7 @@ pub enum Output {
 }
 
 /// `--width`: how many columns the rows of a picture may take.
-#[derive(Clone, Copy, PartialEq, Eq)]
+#[derive(Clone, Copy)]
 pub enum Width {
     /// As many as a terminal has, where the environment says how many that are.
     Auto,
@@ -38,7 +38,7 @@ pub enum Width {
 }
 
 /// `--fail-on`: which diagnostics the status tells of.
-#[derive(Clone, Copy, PartialEq, Eq)]
+#[derive(Clone, Copy)]
 pub enum FailOn {
     /// Errors.
     Error,
@@ -49,7 +49,7 @@ pub enum FailOn {
 }
 
 /// How diagnostics are drawn.
-#[derive(Clone, Copy, PartialEq, Eq)]
+#[derive(Clone, Copy)]
 pub struct Style {
     /// Whether there are colours.
     pub is_colored: bool,
@@ -64,7 +64,7 @@ pub struct Style {
 }
 
 /// What the options ask for.
-#[derive(Clone, Copy, PartialEq, Eq)]
+#[derive(Clone, Copy)]
 pub struct Options<'a> {
     /// How lines are read.
     pub reading: Reading,
@@ -94,7 +94,7 @@ pub struct Options<'a> {
 }
 
 /// Where diagnostics are read from.
-#[derive(Clone, Copy, PartialEq, Eq)]
+#[derive(Clone, Copy)]
 pub enum Input<'a> {
     /// Standard input.
     Standard,

@@ -109,7 +109,7 @@ ariadne-show 0.6.0
 ";
 
 /// A text that the program has ready.
-#[derive(Clone, Copy, PartialEq, Eq)]
+#[derive(Clone, Copy)]
 pub enum HelpPage {
     /// `--help`
     Help,

@@ -32,7 +32,7 @@ use std::alloc::{AllocError, Global};
 use std::io::Write;
 
 /// What the output ends with.
-#[derive(Clone, Copy, PartialEq, Eq)]
+#[derive(Clone, Copy)]
 pub enum Written {
     /// Nothing, or a whole line.
     Lines,

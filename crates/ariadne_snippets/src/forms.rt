@@ -7,7 +7,7 @@ ghost use Rattle.ariadne_snippets.specs.Words.{unfiled_in, words_in, words_told}
 use crate::pieces::{begins_with, behind, behind_text, number, past_blanks};
 
 /// A line of rustc's form that has words of its own.
-#[derive(Clone, Copy, Debug, PartialEq, Eq)]
+#[derive(Clone, Copy)]
 pub(crate) enum Words<'a> {
     /// `= note: ..`, or a note below the place.
     Note(&'a str),

@@ -8,7 +8,7 @@ ghost use Rattle.ariadne_snippets.specs.Gutters.{without as text_without};
 use crate::pieces::{behind, digits, number, past_blanks};
 
 /// A line behind a gutter.
-#[derive(Clone, Copy, Debug, PartialEq, Eq)]
+#[derive(Clone, Copy)]
 pub(crate) struct Gutter<'a> {
     /// The number of the line that it quotes, if it names one.
     pub(crate) number: Option<usize>,

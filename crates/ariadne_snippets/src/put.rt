@@ -8,7 +8,7 @@ use crate::quote::white_length;
 use std::alloc::{AllocError, Global};
 
 /// A text that is put into a line.
-#[derive(Clone, Copy, Debug, PartialEq, Eq)]
+#[derive(Clone, Copy)]
 pub(crate) struct Insertion<'a> {
     /// The character of the line, from 0, in front of which it is put.
     pub(crate) offset: usize,
@@ -66,7 +66,7 @@ pub(crate) fn is_new_line(text: &str, line: &[char]) -> bool {
 }
 
 /// What a text is beside a line of a file, without the white space around both.
-#[derive(Clone, Copy, Debug, PartialEq, Eq)]
+#[derive(Clone, Copy)]
 pub(crate) enum Kept {
     /// The same.
     Same,
@@ -143,7 +143,7 @@ fn attribute_of<'a>(text: &'a str, source: &str) -> Option<(&'a str, &'a str)>
 }
 
 /// Two pieces that a text has more than a source.
-#[derive(Clone, Copy, Debug, PartialEq, Eq)]
+#[derive(Clone, Copy)]
 pub(crate) struct TwoPieces<'a, 's> {
     /// What stands in front of them.
     pub(crate) front: &'s str,

@@ -42,7 +42,7 @@ pub(crate) const LAST_COLUMN: usize = (1 << 63) - 1;
 const BYTE_ORDER: char = '\u{feff}';
 
 /// A quote of a line.
-#[derive(Debug, Drop)]
+#[derive(Drop)]
 pub(crate) struct Quote {
     /// Its characters.
     pub(crate) chars: Vec<char>,

@@ -26,7 +26,7 @@ use std::alloc::{AllocError, Global};
 const OPERATOR_LENGTH: usize = 3;
 
 /// A line that was quoted, and what was read below it.
-#[derive(Debug, Drop)]
+#[derive(Drop)]
 pub(crate) struct Quoted {
     /// Its number.
     pub(crate) number: usize,

@@ -24,7 +24,7 @@ const GAP: &str = "  ";
 pub(crate) const ROW_LENGTH: usize = 1 << 59;
 
 /// A text in a row.
-#[derive(Clone, Copy, Debug, PartialEq, Eq)]
+#[derive(Clone, Copy)]
 pub(crate) struct Piece<'a> {
     /// The column that it begins in, from 0.
     pub(crate) column: usize,
@@ -33,7 +33,7 @@ pub(crate) struct Piece<'a> {
 }
 
 /// A part of a row: marks, and what is written behind them.
-#[derive(Clone, Copy, Debug, PartialEq, Eq)]
+#[derive(Clone, Copy)]
 pub(crate) struct Part<'a> {
     /// The column that it begins in, from 0.
     pub(crate) column: usize,

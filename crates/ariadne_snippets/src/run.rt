@@ -1,7 +1,7 @@
 //! A run of marks.
 
 /// A run of marks: its columns, from 0.
-#[derive(Clone, Copy, Debug, PartialEq, Eq)]
+#[derive(Clone, Copy)]
 pub(crate) struct Run {
     /// The first.
     pub(crate) start: usize,

@@ -21,7 +21,7 @@ use ariadne_parse::Unit;
 use std::alloc::{AllocError, Global};
 
 /// How the lines of a snippet are written.
-#[derive(Clone, Copy, Debug, PartialEq, Eq)]
+#[derive(Clone, Copy, PartialEq, Eq)]
 pub(crate) enum Form {
     /// None was read yet.
     Unread,
@@ -36,7 +36,7 @@ pub(crate) enum Form {
 }
 
 /// What lines are read next.
-#[derive(Clone, Copy, Debug, PartialEq, Eq)]
+#[derive(Clone, Copy)]
 pub(crate) enum Stage {
     /// Quoted lines, and rows below them.
     Rows,
@@ -55,7 +55,7 @@ pub(crate) enum Stage {
 }
 
 /// What the rows behind a help have said so far.
-#[derive(Clone, Copy, Debug, PartialEq, Eq)]
+#[derive(Clone, Copy, PartialEq, Eq)]
 pub(crate) enum Advice {
     /// That this many lines are put in.
     Puts(usize),
@@ -87,7 +87,7 @@ impl Advice {
 }
 
 /// The snippet of a place.
-#[derive(Debug, Drop)]
+#[derive(Drop)]
 pub struct Snippet {
     pub(crate) alloc: Global,
     /// The line of the place.

@@ -21,7 +21,7 @@
 use crate::runs::is_mark;
 
 /// What the strokes that lead to marks say of them.
-#[derive(Clone, Copy, Debug, PartialEq, Eq)]
+#[derive(Clone, Copy)]
 pub(crate) enum Stroke {
     /// There is none.
     Absent,

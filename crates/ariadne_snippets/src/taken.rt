@@ -1,7 +1,7 @@
 //! What is learned of the lines of a snippet.
 
 /// A character of a file.
-#[derive(Clone, Copy, Debug, PartialEq, Eq)]
+#[derive(Clone, Copy, PartialEq, Eq)]
 pub struct Point {
     /// Its line, from 1.
     pub line: usize,
@@ -11,7 +11,7 @@ pub struct Point {
 
 /// What a run of marks covers, in one line. It is never empty: a mark behind the last character of a line
 /// covers what ends the line.
-#[derive(Clone, Copy, Debug, PartialEq, Eq)]
+#[derive(Clone, Copy)]
 pub struct Mark<'a> {
     /// The first character.
     pub start: Point,
@@ -26,7 +26,7 @@ pub struct Mark<'a> {
 }
 
 /// A text below a mark.
-#[derive(Clone, Copy, Debug, PartialEq, Eq)]
+#[derive(Clone, Copy)]
 pub struct Label<'a> {
     /// The number of the mark, from 0, among the ranges that were taken last.
     pub mark: usize,
@@ -38,7 +38,7 @@ pub struct Label<'a> {
 }
 
 /// What is to be done at a place.
-#[derive(Clone, Copy, Debug, PartialEq, Eq)]
+#[derive(Clone, Copy)]
 pub enum FixKind {
     /// The text is to stand there, in place of what is marked, or between what is there.
     Put,
@@ -51,7 +51,7 @@ pub enum FixKind {
 }
 
 /// What a tool says is to be changed.
-#[derive(Clone, Copy, Debug, PartialEq, Eq)]
+#[derive(Clone, Copy)]
 pub struct Fix<'a> {
     /// Where.
     pub at: Point,
@@ -62,7 +62,7 @@ pub struct Fix<'a> {
 }
 
 /// What a line of output is to a snippet.
-#[derive(Debug, Drop)]
+#[derive(Drop)]
 pub enum Taken<'a> {
     /// It is none of the snippet, which ended before it.
     NotOfSnippet,

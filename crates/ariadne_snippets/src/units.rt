@@ -9,7 +9,7 @@ use crate::quote::{Quote, is_all_white, rest_of};
 use std::alloc::{AllocError, Global};
 
 /// What units stand for a character.
-#[derive(Clone, Copy, Debug, PartialEq, Eq)]
+#[derive(Clone, Copy)]
 pub(crate) enum Units {
     /// Those of UTF-16, each as the character itself.
     Utf16,
