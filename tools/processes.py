@@ -36,8 +36,14 @@ def all_processes():
 
 
 def below(above):
-    """The number of a process, and of all that it has begun, by way of others too, as far as these go on."""
-    return with_begun([above], list(all_processes()))
+    """The number of a process, and of all that it has begun, by way of others too, as far as these go on. The
+    system lists those that each thread has begun, which takes far less than a look at all processes."""
+    found = [above]
+    for number in found:
+        for path in Path(f"/proc/{number}/task").glob("*/children"):
+            with suppress(OSError):  # (it may have ended)
+                found += map(int, path.read_text().split())
+    return found
 
 
 def with_begun(numbers, among):
