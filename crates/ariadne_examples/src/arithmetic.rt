@@ -5,7 +5,7 @@
 ghost use Rattle.std.specs.Prelude.{◌≤◌, ◌<◌, IfOk, length};
 
 use crate::pictures::{assert_rows, picture_over, plain};
-use ariadne::{Label, Report, ReportKind};
+use ariadne::{Label, Report, ReportBuilder, ReportKind};
 use std::alloc::{AllocError, Global};
 use std::process::Abort;
 
@@ -64,16 +64,32 @@ fn factor(text: &[char], at: usize) -> Result<(u64, usize), Fault>
 
 /// The report of a fault, with a label where a bracket was opened.
 fn report(alloc: Global, Fault { at, opened }: Fault) -> Result<Report<'static>, AllocError> {
-    let mut builder = Report::build(alloc, ReportKind::Error, at..at)
+    let stop = label(alloc, at, "sum stops here")?;
+    let builder = Report::build(alloc, ReportKind::Error, at..at)
         .with_config(plain())
-        .with_message("expected a digit or `(`")?
-        .with_label(Label::new(at..at.saturating_add(1)).with_message(alloc, "sum stops here")?)?;
-    if let Some(at) = opened {
-        let bracket = Label::new(at..at.saturating_add(1)).with_message(alloc, "opened here")?;
-        builder.set_message("unclosed bracket")?;
-        builder.add_label(bracket)?;
-    }
-    Ok(builder.finish())
+        .with_label(stop)?;
+    let report = match opened {
+        Some(at) => with_bracket(alloc, builder, at)?,
+        None => builder.with_message("expected a digit or `(`")?,
+    };
+    Ok(report.finish())
+}
+
+/// A label at an offset.
+fn label(alloc: Global, at: usize, text: &str) -> Result<Label, AllocError> {
+    Label::new(at..at.saturating_add(1)).with_message(alloc, text)
+}
+
+/// The report of a bracket that was opened at an offset.
+fn with_bracket(
+    alloc: Global,
+    builder: ReportBuilder<'static>,
+    at: usize,
+) -> Result<ReportBuilder<'static>, AllocError> {
+    let bracket = label(alloc, at, "opened here")?;
+    builder
+        .with_label(bracket)?
+        .with_message("unclosed bracket")
 }
 
 /// The picture of the report.

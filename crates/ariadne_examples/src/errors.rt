@@ -51,14 +51,22 @@ impl Refusal {
     /// The report of it, with its text as message.
     fn report(&self, alloc: Global) -> Result<Report<'static>, AllocError> {
         let (code, start, end, hint) = self.parts();
-        let mut builder = Report::build(alloc, ReportKind::Error, start..start)
+        let message = self.to_string(alloc)?;
+        let report = Report::build(alloc, ReportKind::Error, start..start)
             .with_config(plain())
+            .with_labels(label(alloc, start, end, hint)?)?
             .with_code(code)?
-            .with_message(self.to_string(alloc)?.as_str())?;
-        if start <= end {
-            builder.add_label(Label::new(start..end).with_message(alloc, hint)?)?;
-        }
-        Ok(builder.finish())
+            .with_message(message.as_str())?;
+        Ok(report.finish())
+    }
+}
+
+/// A label from `start` to `end`, unless that is in front of `start`.
+fn label(alloc: Global, start: usize, end: usize, hint: &str) -> Result<Option<Label>, AllocError> {
+    if start <= end {
+        Ok(Some(Label::new(start..end).with_message(alloc, hint)?))
+    } else {
+        Ok(None)
     }
 }
 

@@ -69,29 +69,51 @@ fn report<'p>(
     path: &'p str,
     fault: &Fault,
 ) -> Result<FileReport<'p>, AllocError> {
-    let mut builder = Report::build(alloc, ReportKind::Error, (path, fault.place))
+    let report = Report::build(alloc, ReportKind::Error, (path, fault.place))
         .with_config(config)
+        .with_labels(labels(alloc, path, fault)?)?
         .with_code_text(fault.rule.code)?
         .with_message(fault.rule.message)?
         .with_note(fault.rule.note)?;
+    Ok(report.finish())
+}
+
+/// Its labels: where the fault is, and in front of that where a name was set before.
+fn labels<'p>(
+    alloc: Global,
+    path: &'p str,
+    fault: &Fault,
+) -> Result<Vec<Label<(&'p str, Place)>>, AllocError> {
+    let mut labels = Vec::new(alloc);
     if let Some(before) = fault.before {
-        builder.add_label(Label::new((path, before)).with_message(alloc, "set here before")?)?;
+        labels.push(Label::new((path, before)).with_message(alloc, "set here before")?)?;
     }
-    builder.add_label(Label::new((path, fault.place)).with_message(alloc, fault.rule.hint)?)?;
-    Ok(builder.finish())
+    labels.push(Label::new((path, fault.place)).with_message(alloc, fault.rule.hint)?)?;
+    Ok(labels)
+}
+
+/// How faults are drawn.
+fn config(rt: &HostRuntime) -> Config {
+    Config::new()
+        .with_char_set(CharSet::Ascii)
+        .with_color(colors(rt))
+        .with_index_type(IndexType::Byte)
+}
+
+/// Draws these faults of a text that stands in the file at a path.
+fn draw(rt: &HostRuntime, path: &str, text: &str, faults: &[Fault]) -> Result<(), WriteError> {
+    let config = config(rt);
+    let mut cache = (path, Source::from(rt.alloc(), text)?);
+    for fault in faults {
+        report(rt.alloc(), config, path, fault)?.eprint(&mut cache, rt.stderr())?;
+    }
+    Ok(())
 }
 
 /// Draws each fault of a text that stands in the file at a path, and returns how many there are.
 fn check(rt: &HostRuntime, path: &str, text: &str) -> Result<usize, WriteError> {
-    let config = Config::new()
-        .with_char_set(CharSet::Ascii)
-        .with_color(colors(rt))
-        .with_index_type(IndexType::Byte);
     let faults = faults_of(rt.alloc(), text)?;
-    let mut cache = (path, Source::from(rt.alloc(), text)?);
-    for fault in &faults {
-        report(rt.alloc(), config, path, fault)?.eprint(&mut cache, rt.stderr())?;
-    }
+    draw(rt, path, text, faults.as_slice())?;
     Ok(faults.len())
 }
 

@@ -11,11 +11,12 @@ type Spot = (usize, Place);
 
 /// The error that a name was declared before, at another spot.
 fn again(alloc: Global, here: Spot, before: Spot) -> Result<Report<'static, Spot>, AllocError> {
+    let again = Label::new(here).with_message(alloc, "again here")?;
+    let first = Label::new(before).with_message(alloc, "first here")?;
     let report = Report::build(alloc, ReportKind::Error, here)
         .with_config(plain())
-        .with_message("declared twice")?
-        .with_label(Label::new(here).with_message(alloc, "again here")?)?
-        .with_label(Label::new(before).with_message(alloc, "first here")?)?;
+        .with_labels([again, first])?
+        .with_message("declared twice")?;
     Ok(report.finish())
 }
 

@@ -61,9 +61,9 @@ fn config() -> Config {
 
 /// A report with two labels, of which the second cuts a character.
 fn labelled(alloc: Global, builder: SafeBuilder<'_>) -> Result<SafeBuilder<'_>, AllocError> {
-    builder
-        .with_label(Label::new((0, 3..6)).with_message(alloc, "one\ntwo")?)?
-        .with_label(Label::new((0, 1..2)).with_message(alloc, "cut")?)
+    let whole = Label::new((0, 3..6)).with_message(alloc, "one\ntwo")?;
+    let cut = Label::new((0, 1..2)).with_message(alloc, "cut")?;
+    builder.with_label(whole)?.with_label(cut)
 }
 
 /// A report with a text of each other kind.
