@@ -10,7 +10,7 @@ use Rattle.ariadne.specs.LeftOut.{LeftOut}
 use Rattle.ariadne.specs.Reason.{Reason}
 use Rattle.ariadne.specs.Reason.TheVariants.{Unfetched, PastSource}
 use Rattle.ariadne.specs.Reason.TheVariants.{CutsCharacter}
-use Rattle.ariadne.specs.Report.{World}
+use Rattle.ariadne.specs.Report.{ReportFields, World}
 use Rattle.ariadne.specs.Written.{IsWritten}
 use Rattle.ariadne_safe.specs.Pictures.{HidesNothing}
 use Rattle.ariadne_safe.specs.declared.sources.NoSource.{NoSource}
@@ -44,6 +44,15 @@ abbrev pub IsDrawnBy : Bool → (List ToldLeftOut → List ℕ → Type 0)
 IsDrawnBy true first second told bytes = first told bytes
 IsDrawnBy false first second told bytes = second told bytes
 
+-- these bytes are the whole picture of a safe report, without the labels that are told, and they hide
+-- nothing
+pub record IsSafePicture (sources : List SafeSource) (report : ReportFields (ℕ × Range ℕ))
+    (told : List ToldLeftOut) (bytes : List ℕ) : Type 0 where
+  pub list : Vec (LeftOut NoSource) Global
+  pub told_is : told ≡ map told_of list.items
+  pub written : WrittenFor sources report (Some []) (Some bytes) (Ok list)
+  pub hides : HidesNothing bytes
+
 module _ (report : GivenReport) (sources : List GivenSource) where
   -- these bytes are the whole picture of the report over the sources, without these labels, and on it
   -- every message can be found. What was read are the given sources under their numbers and names
@@ -61,16 +70,11 @@ module _ (report : GivenReport) (sources : List GivenSource) where
     pub told_is : told ≡ map told_of list
     pub shown : IsShown list bytes
 
-  -- these bytes are the whole picture of the report that stands for the given one over safe sources,
-  -- without the labels that are told, and they hide nothing
+  -- the same of the report that stands for the given one over safe sources
   pub record IsShownSafely (told : List ToldLeftOut) (bytes : List ℕ) : Type 0 where
     pub safe : List SafeSource
     pub are_safe : AreSafe sources safe
-    pub list : Vec (LeftOut NoSource) Global
-    pub told_is : told ≡ map told_of list.items
-    pub written : WrittenFor safe (shown_report safe (report_of report)) (Some []) (Some bytes)
-        (Ok list)
-    pub hides : HidesNothing bytes
+    pub shown : IsSafePicture safe (shown_report safe (report_of report)) told bytes
 
   -- one or the other, as the flags say
   abbrev pub IsDrawn : List ToldLeftOut → List ℕ → Type 0

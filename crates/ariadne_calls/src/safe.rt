@@ -13,7 +13,8 @@ ghost use Rattle.ariadne_safe.specs.Sources.{sources_of};
 ghost use Rattle.ariadne_calls.specs.Faults.{IsFirst, faults_over};
 ghost use Rattle.ariadne_calls.specs.CallSources.{shown_listing};
 ghost use Rattle.ariadne_calls.specs.Safe.{shown_report, under};
-ghost use Rattle.ariadne_calls.specs.CallBuffers.{IsShownSafely};
+ghost use Rattle.ariadne_calls.specs.CallBuffers.{IsSafePicture, IsShownSafely};
+ghost use Rattle.ariadne_calls.specs.declared.ending.Refusal.TheVariants.{NoMemory};
 
 use crate::ending::Refusal;
 use crate::given::{GivenReport, GivenSource};
@@ -37,11 +38,32 @@ pub fn safe_picture(
 {
     let asked = report_of(alloc, sources.len(), report)?;
     let safe = read_safely(alloc, sources)?;
+    picture_over(alloc, &asked, &safe)
+}
+
+/// Makes the picture of the safe report that stands for one.
+fn picture_over(
+    alloc: Global,
+    asked: &Report<'_, Place>,
+    sources: &SafeSources,
+) -> Result<Picture, Refusal>
+    ensures ok { IfOk result (λ p. IsSafePicture (sources_of sources.now)
+        (shown_report (sources_of sources.now) asked.now) p.left_out.items p.bytes.items) }
+    ensures err { IfErr result (λ refusal. refusal ≡ NoMemory) }
+{
     let name = visible(alloc, asked.kind().name(), TextKind::OneRow)?;
     let kind = safe_kind(asked.kind(), name.as_str());
-    let shown = safe_report(alloc, &asked, kind, &safe)?;
+    picture_of(alloc, &safe_report(alloc, asked, kind, sources)?)
+}
+
+/// Makes the picture of a safe report.
+fn picture_of(alloc: Global, report: &SafeReport<'_>) -> Result<Picture, Refusal>
+    ensures ok { IfOk result (λ p. IsSafePicture (sources_below report.now) (report_in report.now)
+        p.left_out.items p.bytes.items) }
+    ensures err { IfErr result (λ refusal. refusal ≡ NoMemory) }
+{
     let mut bytes = Vec::new(alloc);
-    match shown.write(&mut bytes) {
+    match report.write(&mut bytes) {
         Ok(left_out) => Ok(Picture {
             bytes,
             left_out: told_all(alloc, left_out.as_slice())?,
