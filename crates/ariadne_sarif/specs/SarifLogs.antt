@@ -186,12 +186,21 @@ related_of d = items_in (list_at (codes "relatedLocations") d)
 abbrev pub located_spans : Data → Data → List Seen
 located_spans run d = spans_at run true (own_of d) ++ spans_at run false (related_of d)
 
--- with these, the spans of its steps, and a row for each location without a span, in front of its fixes
+-- and those of its steps
+abbrev pub all_spans : Data → Data → List Seen
+all_spans run d = located_spans run d ++ step_spans run 1 (steps_of d)
+
+-- a row for each location without a span
+abbrev pub all_rows : Data → Data → List (List ℕ)
+all_rows run d = rows_at run (own_of d) ++ rows_at run (related_of d)
+
+-- a result without them
+abbrev pub unlocated : Data → Data → Read
+unlocated run d = coded (code_of run d) (bare (severity_of run d) (text_of run d))
+
+-- with them, in front of its fixes
 abbrev pub unfixed : Data → Data → Read
-unfixed run d = record (coded (code_of run d) (bare (severity_of run d) (text_of run d))) {
-  spans = located_spans run d ++ step_spans run 1 (steps_of d);
-  notes = rows_at run (own_of d) ++ rows_at run (related_of d);
-}
+unfixed run d = record (unlocated run d) { spans = all_spans run d; notes = all_rows run d }
 
 abbrev pub result_read : Data → Data → Read
 result_read run d = with_fixes run (items_in (list_at (codes "fixes") d)) (unfixed run d)

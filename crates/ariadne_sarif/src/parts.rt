@@ -1,6 +1,6 @@
 //! Parts of documents that several forms have: members of members, locations, and diagnostics of a file.
 
-ghost use Rattle.std.specs.Prelude.{◌≡◌, option_map, IfOk, Some};
+ghost use Rattle.std.specs.Prelude.{◌≡◌, ◌++◌, map, option_map, string_bytes, IfOk, None, OnOk, Some};
 ghost use Rattle.serde_json.specs.View.{items_view, view};
 ghost use Rattle.serde_json.specs.Find.{as_array};
 ghost use Rattle.ariadne_parse.specs.Members.{end_before, items_in, location_at};
@@ -131,10 +131,21 @@ pub fn filed(
     let mut parsed = Diagnostic::new(alloc, severity, message)?;
     match span {
         Some(span) => parsed.spans.push(span)?,
-        None if file.is_empty() => {}
-        None => parsed.notes.push(String::from_str(alloc, file)?)?,
+        None => push_file(alloc, &mut parsed.notes, file)?,
     }
     Ok(parsed)
+}
+
+/// Adds a file, if it has a name.
+fn push_file(alloc: Global, notes: &mut Vec<String>, file: &str) -> Result<(), AllocError>
+    ensures { OnOk result (map string_bytes notes.new.items
+        ≡ map string_bytes notes.old.items ++ parts.unplaced file.now None) }
+{
+    if file.is_empty() {
+        return Ok(());
+    }
+    notes.push(String::from_str(alloc, file)?)?;
+    Ok(())
 }
 
 /// The items of a value that is a list; none where it is no list.

@@ -4,6 +4,7 @@ ghost use Rattle.std.specs.Prelude.{◌≡◌, ◌++◌, map, option_map, string
 ghost use Rattle.serde_json.specs.View.{items_view, view};
 ghost use Rattle.ariadne_parse.specs.Members.{all_items, flat_items};
 ghost use Rattle.ariadne_parse.specs.Read.{read};
+ghost use Rattle.ariadne_parse.specs.Spans.{seen};
 ghost use Rattle.ariadne_sarif.specs.SarifLogs as sarif;
 
 use crate::sarif_fixes::push_fixes;
@@ -11,9 +12,9 @@ use crate::sarif_flows::{push_steps, steps_of};
 use crate::sarif_messages::text_of;
 use crate::sarif_rules::{code_of, severity_of};
 use crate::sarif_spans::{push_rows, push_spans};
-use ariadne_parse::Diagnostic;
 use ariadne_parse::json::{has_list, has_no_items, has_words, items, words};
 use ariadne_parse::pieces::{begins_with, contains};
+use ariadne_parse::{Diagnostic, Span};
 use serde_json::Value;
 use std::alloc::{AllocError, Global};
 
@@ -159,17 +160,49 @@ fn parsed_by_result(alloc: Global, run: &Value, it: &Value) -> Result<Diagnostic
 fn unfixed(alloc: Global, run: &Value, it: &Value) -> Result<Diagnostic, AllocError>
     ensures { IfOk result (λ parsed. read parsed ≡ sarif.unfixed (view run.now) (view it.now)) }
 {
-    let own = items(it, "locations");
-    let related = items(it, "relatedLocations");
+    let mut parsed = unlocated(alloc, run, it)?;
+    push_all_spans(alloc, &mut parsed.spans, run, it)?;
+    push_all_rows(alloc, &mut parsed.notes, run, it)?;
+    Ok(parsed)
+}
+
+/// The diagnostic of a result, without its locations.
+fn unlocated(alloc: Global, run: &Value, it: &Value) -> Result<Diagnostic, AllocError>
+    ensures { IfOk result (λ parsed. read parsed ≡ sarif.unlocated (view run.now) (view it.now)) }
+{
     let text = text_of(alloc, run, it)?;
     let mut parsed = Diagnostic::new(alloc, severity_of(run, it), text.as_str())?;
     parsed.code = copied_code(alloc, run, it)?;
-    push_spans(alloc, &mut parsed.spans, run, own, true)?;
-    push_spans(alloc, &mut parsed.spans, run, related, false)?;
-    push_steps(alloc, &mut parsed.spans, run, steps_of(it))?;
-    push_rows(alloc, &mut parsed.notes, run, own)?;
-    push_rows(alloc, &mut parsed.notes, run, related)?;
     Ok(parsed)
+}
+
+/// Adds the spans of a result's locations and steps.
+fn push_all_spans(
+    alloc: Global,
+    spans: &mut Vec<Span>,
+    run: &Value,
+    it: &Value,
+) -> Result<(), AllocError>
+    ensures { OnOk result (map seen spans.new.items
+        ≡ map seen spans.old.items ++ sarif.all_spans (view run.now) (view it.now)) }
+{
+    push_spans(alloc, spans, run, items(it, "locations"), true)?;
+    push_spans(alloc, spans, run, items(it, "relatedLocations"), false)?;
+    push_steps(alloc, spans, run, steps_of(it))
+}
+
+/// Adds a row for each of a result's locations that has no span.
+fn push_all_rows(
+    alloc: Global,
+    rows: &mut Vec<String>,
+    run: &Value,
+    it: &Value,
+) -> Result<(), AllocError>
+    ensures { OnOk result (map string_bytes rows.new.items
+        ≡ map string_bytes rows.old.items ++ sarif.all_rows (view run.now) (view it.now)) }
+{
+    push_rows(alloc, rows, run, items(it, "locations"))?;
+    push_rows(alloc, rows, run, items(it, "relatedLocations"))
 }
 
 /// A copy of a result's code, if it has one.
