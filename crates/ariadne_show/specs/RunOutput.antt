@@ -445,15 +445,25 @@ pub data IsEnded (output : Output) (first : Out) (last : StreamBytes) : Type 0 w
       → Appends first.output last.output SARIF_TAIL.now → Appends first.beside more (more_text first.shown.drawn)
       → Appends more last.beside (sum_text first.shown.sum) → IsEnded output first last
 
--- all that an input tells was shown, and what the sum is of
-pub record IsAllShown (options : Options) (input : Option (List ℕ)) (before after : StreamBytes) (sum : Sum) : Type 0 where
-  pub started : StreamBytes
-  pub start : IsStarted options.output before.output started.output
-  pub beside : started.beside ≡ before.beside
-  pub first : At
-  pub is_new : IsNew first.known
-  pub nothing : first.out ≡ out_of nothing_shown started
+-- an input was shown to its end, and what stands behind all
+pub record IsShownToEnd (options : Options) (input : Option (List ℕ)) (first : At) (after : StreamBytes) (sum : Sum)
+    : Type 0 where
   pub finished : At
   pub lines : IsInputShown options input first finished AtEnd
   pub end : IsEnded options.output finished.out after
   pub summed : sum ≡ finished.out.shown.sum
+
+-- it was shown so by a run, behind what stands in front of all
+pub record IsShownBy (options : Options) (input : Option (List ℕ)) (run : Run) (before after : StreamBytes) (sum : Sum)
+    : Type 0 where
+  pub started : StreamBytes
+  pub start : IsStarted options.output before.output started.output
+  pub beside : started.beside ≡ before.beside
+  pub shown : IsShownToEnd options input (at_of run started) after sum
+
+-- all that an input tells was shown, by a run that knew nothing
+pub record IsAllShown (options : Options) (input : Option (List ℕ)) (before after : StreamBytes) (sum : Sum) : Type 0 where
+  pub run : Run
+  pub is_new : IsNew run.known
+  pub nothing : run.shown ≡ nothing_shown
+  pub shown : IsShownBy options input run before after sum

@@ -2,7 +2,8 @@
 
 ghost use Rattle.std.specs.Prelude.{◌≡◌, IfOk, OnOk};
 ghost use Rattle.ariadne_show.specs.ReadFiles.{HaveSources};
-ghost use Rattle.ariadne_show.specs.RunOutput.{at_of, holding_of, HaveLinesEnded, IsAllShown, IsEnded, IsInputShown, IsStarted};
+ghost use Rattle.ariadne_show.specs.RunOutput.{at_of, holding_of, HaveLinesEnded, IsAllShown, IsEnded, IsInputShown};
+ghost use Rattle.ariadne_show.specs.RunOutput.{IsShownBy, IsShownToEnd, IsStarted};
 ghost use Rattle.ariadne_show.specs.Sums.{line_end as end_before};
 ghost use Rattle.ariadne_show.specs.Writing.{is_open as is_line_open, out_of};
 
@@ -48,14 +49,7 @@ pub fn show<R: Files, I: BufRead, W: Write, F: Write>(
         options,
     };
     let mut run = Run::new(files, alloc, options)?;
-    task.show_start(streams)?;
-    match task.show_input(&mut run, input, streams)? {
-        InputEnd::AtEnd => {
-            task.show_end(&run.shown, streams)?;
-            Ok(run.shown.sum)
-        }
-        InputEnd::Unread(fault) => Err(fault),
-    }
+    task.show_by(&mut run, input, streams)
 }
 
 /// Where the lines of an input end.
@@ -79,6 +73,41 @@ impl<R: Files> Task<'_, R> {
         }
         let head = sarif_head(self.alloc, VERSION)?;
         send(&mut streams.out, head.as_bytes())
+    }
+
+    /// Shows the input by a run, and what stands in front and behind.
+    fn show_by<I: BufRead, W: Write, F: Write>(
+        &self,
+        run: &mut Run,
+        input: &mut I,
+        streams: &mut Streams<W, F>,
+    ) -> Result<Sum, Fault>
+        requires { HaveSources run.old.known.finder.shelf }
+        ensures { IfOk result (IsShownBy self.now.options.now (I.remaining input.old) run.old
+            streams.old streams.new) }
+    {
+        self.show_start(streams)?;
+        self.show_to_end(run, input, streams)
+    }
+
+    /// Shows the input to its end, and what stands behind all.
+    fn show_to_end<I: BufRead, W: Write, F: Write>(
+        &self,
+        run: &mut Run,
+        input: &mut I,
+        streams: &mut Streams<W, F>,
+    ) -> Result<Sum, Fault>
+        requires { HaveSources run.old.known.finder.shelf }
+        ensures { IfOk result (IsShownToEnd self.now.options.now (I.remaining input.old)
+            (at_of run.old streams.old) streams.new) }
+    {
+        match self.show_input(run, input, streams)? {
+            InputEnd::AtEnd => {
+                self.show_end(&run.shown, streams)?;
+                Ok(run.shown.sum)
+            }
+            InputEnd::Unread(fault) => Err(fault),
+        }
     }
 
     /// Shows the lines of the input, and what is held behind the last one, also where the next can't be

@@ -1,11 +1,11 @@
 //! The words of the command line, as `clap` parses them.
 
-ghost use Rattle.std.specs.Prelude.{◌≡◌, IfErr, IfOk, fold, map, string_bytes};
+ghost use Rattle.std.specs.Prelude.{◌≡◌, codes, IfErr, IfOk, fold, map, string_bytes};
 ghost use Rattle.clap.specs.Words.{app_of, rule_of, with_rule};
 ghost use Rattle.ariadne_show.specs.OptionMeanings.{IsAskedBy, IsRefusedFor};
 ghost use Rattle.ariadne_show.specs.Faults.{TellsWords};
-ghost use Rattle.ariadne_show.specs.CommandWords.{choice_rule, choices, command as command_app};
-ghost use Rattle.ariadne_show.specs.CommandWords.{inputs_rule, number_rule, option_rule, switch_rule};
+ghost use Rattle.ariadne_show.specs.CommandWords.{bare_command, choice_rule, choices, command as command_app};
+ghost use Rattle.ariadne_show.specs.CommandWords.{inputs_rule, number_rule, option_rule, others, switch_rule};
 ghost use Rattle.ariadne_show.specs.CommandWords.{switches, typed_rule};
 ghost use Rattle.clap.specs.declared.builder.value_parser.ValueParser.TheVariants.{NonEmptyString};
 ghost use Rattle.ariadne_show.specs.CommandWords.{texts_in, ForList, ForNames, IsParsedBy};
@@ -89,21 +89,20 @@ fn parse<'a>(alloc: Global, words: &'a [String]) -> Result<ArgMatches<'a>, Error
 fn command<'a>(alloc: Global) -> Result<Command<'a>, AllocError>
     ensures { IfOk result (λ made. ForNames (λ names. app_of made ≡ command_app names)) }
 {
-    let command = Command::new(alloc, "ariadne-show")
+    let command = with_choices(alloc, bare(alloc))?;
+    let command = with_switches(alloc, command)?;
+    with_others(alloc, command)
+}
+
+/// The command without words.
+fn bare<'a>(alloc: Global) -> Command<'a>
+    ensures { app_of result ≡ bare_command (codes "ariadne-show") }
+{
+    Command::new(alloc, "ariadne-show")
         .version(VERSION)
         .override_help(HELP)
         .no_binary_name(true)
-        .args_override_self(true);
-    let command = with_choices(alloc, command)?;
-    let command = with_switches(alloc, command)?;
-    command
-        .arg(number(alloc, "context"))?
-        .arg(number(alloc, "max"))?
-        .arg(text(alloc, "width", "N"))?
-        .arg(text(alloc, "base", "DIR"))?
-        .arg(text(alloc, "tool", "NAME"))?
-        .arg(text(alloc, "matcher", "FILE"))?
-        .arg(inputs(alloc))
+        .args_override_self(true)
 }
 
 /// The command with the options whose values are named.
@@ -130,6 +129,20 @@ fn with_switches<'a>(alloc: Global, command: Command<'a>) -> Result<Command<'a>,
         .arg(switch(alloc, "compact"))?
         .arg(switch(alloc, "short"))?
         .arg(switch(alloc, "raw"))
+}
+
+/// The command with the others, and the names of inputs.
+fn with_others<'a>(alloc: Global, command: Command<'a>) -> Result<Command<'a>, AllocError>
+    ensures { IfOk result (λ made. app_of made ≡ fold with_rule (app_of command.entry) others) }
+{
+    command
+        .arg(number(alloc, "context"))?
+        .arg(number(alloc, "max"))?
+        .arg(text(alloc, "width", "N"))?
+        .arg(text(alloc, "base", "DIR"))?
+        .arg(text(alloc, "tool", "NAME"))?
+        .arg(text(alloc, "matcher", "FILE"))?
+        .arg(inputs(alloc))
 }
 
 /// An option whose value is one of these names.
