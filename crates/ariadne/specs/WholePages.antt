@@ -1,10 +1,11 @@
 -- The page that the picture of a report is drawn on, and the rows of the picture.
-use Rattle.std.specs.Prelude.{ℕ, ◌≡◌, List, [], ◌∷◌, if◌then◌else◌, length}
+use Rattle.std.specs.Prelude.{ℕ, ◌≡◌, List, [], ◌∷◌, if◌then◌else◌, length, map}
 use Rattle.std.specs.List.{enumerate_from}
 use Rattle.ariadne_picture.specs.declared.label_info.LabelInfo.{LabelInfo}
-use Rattle.ariadne_picture.specs.Canvas.{Palette, header_pieces, number_width, palette_of, section_of, texts_of}
+use Rattle.ariadne_picture.specs.Canvas.{Palette, cell_of, header_pieces, number_width, palette_of, section_of, texts_of}
 use Rattle.ariadne_picture.specs.Lists.{joined}
 use Rattle.ariadne_picture.specs.Pieces.{Piece, section_rows}
+use Rattle.ariadne_picture.specs.Print.{printed}
 use Rattle.ariadne_picture.specs.Report.{ReportFields, World, switches_of}
 use Rattle.ariadne_render.specs.Pages.{PageFields}
 use Rattle.ariadne_render.specs.declared.writer.Writer.{Writer}
@@ -39,3 +40,7 @@ module _ {S Id : Type 0} (w : World S Id) (r : ReportFields S) where
   -- the rows of a picture whose groups these are
   abbrev pub picture_rows : List (List LabelInfo) → List (List Piece)
   picture_rows gs = header_pieces (texts_of r) ∷ groups_rows (number_width w r gs) gs
+
+  -- what is printed of it
+  abbrev pub groups_text : List (List LabelInfo) → List ℕ
+  groups_text gs = printed (map (map (cell_of (palette_of r))) (picture_rows gs))

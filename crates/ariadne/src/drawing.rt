@@ -10,7 +10,7 @@ ghost use Rattle.ariadne_render.specs.Pages.{DrawsRows};
 ghost use Rattle.ariadne_render.specs.LongLines.{IsRemembered};
 ghost use Rattle.ariadne_report.specs.CacheReads.{AreDrawn, world};
 ghost use Rattle.ariadne_report.specs.DrawnGroups.{AreGroups};
-ghost use Rattle.ariadne.specs.WholePages.{IsForReport, groups_rows, page_of};
+ghost use Rattle.ariadne.specs.WholePages.{IsForReport, groups_rows, groups_text, page_of};
 ghost use Rattle.ariadne.specs.WholePages.{shown_palette};
 
 use ariadne_base::{Cache, Span};
@@ -48,14 +48,52 @@ pub(crate) fn draw<S: Span, C: Cache<S::SourceId>>(
 {
     let sorted = in_order(report.alloc, infos)?;
     let cut = cut_groups(report, &sorted)?;
-    let groups = cut.as_slice();
+    draw_groups(report, cache, cut.as_slice())
+}
+
+/// Draws the picture of a report whose groups these are.
+fn draw_groups<S: Span, C: Cache<S::SourceId>>(
+    report: &ReportData<'_, S>,
+    cache: &C,
+    groups: &[&[LabelInfo]],
+) -> Result<String, AllocError>
+    requires groups { let w = world S.source_of S.start_of S.end_of S.SourceId.eq
+        (C.names cache.now) (C.contents cache.now) in
+        AreGroups w report.now (map (λ g. g.now) groups.now) }
+    ensures { let w = world S.source_of S.start_of S.end_of S.SourceId.eq
+        (C.names cache.now) (C.contents cache.now) in
+        IfOk result (λ text. string_bytes text
+        ≡ groups_text w report.now (map (λ g. g.now) groups.now)) }
+{
     let page = page(report, cache, groups)?;
-    let mut writer = Writer::new(report.alloc, &page);
-    writer.pen.reserve(FIRST_ROOM)?;
     let messages = messages(report)?;
-    let texts = texts(&*report, &messages);
-    push_header(&mut writer.pen, &texts)?;
-    push_groups(&mut writer, &texts, &*report, &*cache, groups)?;
+    draw_on(&page, &texts(&*report, &messages), report, cache, groups)
+}
+
+/// Draws it on its page, with the texts of the report.
+fn draw_on<'t, S: Span, C: Cache<S::SourceId>>(
+    page: &Page,
+    texts: &'t Texts<'t>,
+    report: &'t ReportData<'_, S>,
+    cache: &'t C,
+    groups: &[&[LabelInfo]],
+) -> Result<String, AllocError>
+    requires page { let w = world S.source_of S.start_of S.end_of S.SourceId.eq
+        (C.names cache.now) (C.contents cache.now) in
+        page.now ≡ page_of w report.now (map (λ g. g.now) groups.now) }
+    requires texts { texts.now ≡ texts_of report.now }
+    requires groups { let w = world S.source_of S.start_of S.end_of S.SourceId.eq
+        (C.names cache.now) (C.contents cache.now) in
+        AreGroups w report.now (map (λ g. g.now) groups.now) }
+    ensures { let w = world S.source_of S.start_of S.end_of S.SourceId.eq
+        (C.names cache.now) (C.contents cache.now) in
+        IfOk result (λ text. string_bytes text
+        ≡ groups_text w report.now (map (λ g. g.now) groups.now)) }
+{
+    let mut writer = Writer::new(report.alloc, page);
+    writer.pen.reserve(FIRST_ROOM)?;
+    push_header(&mut writer.pen, texts)?;
+    push_groups(&mut writer, texts, report, cache, groups)?;
     Ok(writer.into_text())
 }
 
