@@ -1,17 +1,25 @@
 //! Compiler diagnostics: reports with labels, rendered over the source code.
 //!
-//! An error with a code, a label and a help, written over a text:
+//! An error with a code, a label and a help, and how it is written over a text:
 //!
 //! ```rust
-//! pub(crate) fn draw<W: Write>(alloc: Global, out: &mut W) -> Result<(), WriteError> {
+//! /// The report of an error.
+//! ///
+//! /// The offsets count characters from 0, and an end is exclusive: characters 10 to 13 are `aple`.
+//! fn report(alloc: Global) -> Result<Report<'static>, AllocError> {
 //!     let label = Label::new(10..14).with_message(alloc, "no such name")?;
 //!     let report = Report::build(alloc, ReportKind::Error, 10..14)
 //!         .with_config(plain())
+//!         .with_label(label)?
 //!         .with_code(3)?
 //!         .with_message("unknown name")?
-//!         .with_label(label)?
-//!         .with_help("did you mean `apple`?")?
-//!         .finish();
+//!         .with_help("did you mean `apple`?")?;
+//!     Ok(report.finish())
+//! }
+//!
+//! /// Draws it to `out`.
+//! pub(crate) fn draw<W: Write>(alloc: Global, out: &mut W) -> Result<(), WriteError> {
+//!     let report = report(alloc)?;
 //!     let mut source = Source::from(alloc, "let pie = aple + 1;")?;
 //!     // The result lists the labels that are left out. This one lies in the text.
 //!     report.write(&mut source, out)?;
