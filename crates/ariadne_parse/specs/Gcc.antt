@@ -80,19 +80,29 @@ events_of d = items_in (list_at (codes "path") d)
 
 -- ---- a diagnostic
 
-abbrev pub gcc_read : Data → Read
-gcc_read d = record {
+-- its kind, option and message alone
+abbrev pub gcc_bare : Data → Read
+gcc_bare d = record {
   severity = severity_at (codes "kind") d;
   own_kind = None;
   code = text_at (codes "option") d;
   message = words_at (codes "message") d;
+  spans = [];
+  notes = [];
+  helps = [];
+  proposals = [];
+  quoted = [];
+  manifest = None;
+  is_sum = false;
+}
+
+-- with its locations and events, and what its fix-its change and propose
+abbrev pub gcc_read : Data → Read
+gcc_read d = record (gcc_bare d) {
   spans = location_value_spans true (location_values_of d) ++ event_spans 1 (events_of d);
   notes = event_notes 1 (events_of d);
   helps = gcc_changes d;
   proposals = option_to_list (gcc_proposed (0, length (gcc_changes d)) [] (fixits_of d));
-  quoted = [];
-  manifest = None;
-  is_sum = false;
 }
 
 -- ---- its notes

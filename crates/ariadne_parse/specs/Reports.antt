@@ -159,6 +159,20 @@ texts_at name d = texts_in (items_in (list_at name d))
 
 -- ---- reports
 
+-- a diagnostic has the kind, code and message of a report, and nothing else yet
+pub record IsBegunByReport (d : Data) (parsed : Diagnostic) : Type 0 where
+  pub severity : parsed.severity ≡ severity_at (codes "kind") d
+  pub own_kind : option_map named parsed.own_kind ≡ report_kind d
+  pub code : option_map string_bytes parsed.code ≡ text_at (codes "code") d
+  pub message : string_bytes parsed.message ≡ words_at (codes "message") d
+  pub spans : parsed.spans.items ≡ []
+  pub notes : parsed.notes.items ≡ []
+  pub helps : parsed.helps.items ≡ []
+  pub proposals : parsed.proposals.items ≡ []
+  pub quoted : parsed.quoted.items ≡ []
+  pub manifest : parsed.manifest ≡ None
+  pub is_sum : parsed.is_sum ≡ false
+
 -- a diagnostic is what a report tells, which proposes nothing and quotes nothing
 pub record IsOfReport (d : Data) (parsed : Diagnostic) : Type 0 where
   pub severity : parsed.severity ≡ severity_at (codes "kind") d

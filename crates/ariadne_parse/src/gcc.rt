@@ -6,7 +6,7 @@ ghost use Rattle.std.specs.List.{list_all};
 ghost use Rattle.std.specs.Option.{option_to_list};
 ghost use Rattle.serde_json.specs.Find.{as_array};
 ghost use Rattle.serde_json.specs.View.{items_view, view};
-ghost use Rattle.ariadne_parse.specs.Gcc.{event_note, event_spans, event_notes, event_parsed, gcc_all, gcc_behind};
+ghost use Rattle.ariadne_parse.specs.Gcc.{event_note, event_spans, event_notes, event_parsed, gcc_all, gcc_bare, gcc_behind};
 ghost use Rattle.ariadne_parse.specs.Gcc.{event_span as span_of_event, event_text as text_of_event};
 ghost use Rattle.ariadne_parse.specs.Gcc.{gcc_list, gcc_noted, gcc_read, has_column as is_in_column, last_with};
 ghost use Rattle.ariadne_parse.specs.Gcc.{is_away as is_away_from, is_caret_of as is_of_caret};
@@ -163,14 +163,34 @@ fn goes_on(value: &Value, severity: Severity) -> bool
 fn parsed_by_item(alloc: Global, value: &Value) -> Result<Diagnostic, AllocError>
     ensures { IfOk result (λ parsed. read parsed ≡ gcc_read (view value.now)) }
 {
-    let mut parsed = Diagnostic::new(alloc, severity_of(value, "kind"), words(value, "message"))?;
-    parsed.code = copied_text(alloc, value, "option")?;
+    let mut parsed = bare(alloc, value)?;
     push_location_values(alloc, &mut parsed.spans, items(value, "locations"))?;
     push_events(alloc, &mut parsed, items(value, "path"))?;
-    let fixits = items(value, "fixits");
-    parsed.helps = changes_in(alloc, fixits)?;
-    push_proposal(alloc, &mut parsed, 0, "", fixits)?;
+    push_fixits(alloc, &mut parsed, items(value, "fixits"))?;
     Ok(parsed)
+}
+
+/// Its kind, option and message alone.
+fn bare(alloc: Global, value: &Value) -> Result<Diagnostic, AllocError>
+    ensures { IfOk result (λ parsed. read parsed ≡ gcc_bare (view value.now)) }
+{
+    let mut parsed = Diagnostic::new(alloc, severity_of(value, "kind"), words(value, "message"))?;
+    parsed.code = copied_text(alloc, value, "option")?;
+    Ok(parsed)
+}
+
+/// Says in helps what fix-its change, and adds what they propose.
+fn push_fixits(alloc: Global, parsed: &mut Diagnostic, fixits: &[Value]) -> Result<(), AllocError>
+    ensures helps { OnOk result (map string_bytes parsed.new.helps.items
+        ≡ fixes.changes_of (items_view fixits.now)) }
+    ensures proposals { OnOk result (map proposed parsed.new.proposals.items
+        ≡ map proposed parsed.old.proposals.items ++ option_to_list (gcc_proposed
+        (0, length (fixes.changes_of (items_view fixits.now))) [] (items_view fixits.now))) }
+    ensures others { OnOk result (parsed.new
+        ≡ record parsed.old { helps = parsed.new.helps; proposals = parsed.new.proposals }) }
+{
+    parsed.helps = changes_in(alloc, fixits)?;
+    push_proposal(alloc, parsed, 0, "", fixits)
 }
 
 /// Adds what fix-its propose, which the helps from the one with this number on say.

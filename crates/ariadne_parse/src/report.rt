@@ -8,7 +8,7 @@ ghost use Rattle.ariadne_parse.specs.Spans.{named, seen};
 ghost use Rattle.ariadne_parse.specs.Reports.{has_primary as has_primary_label, is_primary as is_primary_label};
 ghost use Rattle.ariadne_parse.specs.Reports.{label_location, label_span as span_of_label};
 ghost use Rattle.ariadne_parse.specs.Reports.{look_at, report_kind, report_unit, spans_in, texts_in, whole_at};
-ghost use Rattle.ariadne_parse.specs.Reports.{IsOfReport};
+ghost use Rattle.ariadne_parse.specs.Reports.{IsBegunByReport, IsOfReport};
 ghost use Rattle.ariadne_parse.specs.ParsedDiagnostics.{is_label as is_of_label, is_report as is_of_report};
 
 use crate::colors::color;
@@ -78,9 +78,7 @@ fn unit_of(value: &Value) -> Unit
 pub(crate) fn parsed_by_report(alloc: Global, value: &Value) -> Result<Diagnostic, AllocError>
     ensures { IfOk result (λ parsed. IsOfReport (view value.now) parsed) }
 {
-    let mut parsed = Diagnostic::new(alloc, severity(value, "kind"), words(value, "message"))?;
-    parsed.own_kind = own_kind(alloc, value)?;
-    parsed.code = copied_text(alloc, value, "code")?;
+    let mut parsed = begun(alloc, value)?;
     push_labels(
         alloc,
         &mut parsed.spans,
@@ -89,6 +87,16 @@ pub(crate) fn parsed_by_report(alloc: Global, value: &Value) -> Result<Diagnosti
     )?;
     push_texts(alloc, &mut parsed.notes, items(value, "notes"))?;
     push_texts(alloc, &mut parsed.helps, items(value, "helps"))?;
+    Ok(parsed)
+}
+
+/// Its kind, code and message alone.
+fn begun(alloc: Global, value: &Value) -> Result<Diagnostic, AllocError>
+    ensures { IfOk result (IsBegunByReport (view value.now)) }
+{
+    let mut parsed = Diagnostic::new(alloc, severity(value, "kind"), words(value, "message"))?;
+    parsed.own_kind = own_kind(alloc, value)?;
+    parsed.code = copied_text(alloc, value, "code")?;
     Ok(parsed)
 }
 
