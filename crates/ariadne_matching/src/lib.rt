@@ -3,7 +3,7 @@
 //!
 //! The entries of people's own table (`own`) and of the program's are tried at lines that wait (`lines`, `matchers`).
 //! What they tell (`reading`) is placed in the files that they name (`files`), written as a report (`reports`), and
-//! handed over (`handing`).
+//! handed over (`handing`). `settling` has the lines that wait and what is ready of them.
 #![tactic(auto)]
 
 pub mod files;
@@ -14,6 +14,7 @@ pub mod matchers;
 pub mod own;
 pub mod reading;
 pub mod reports;
+pub mod settling;
 
 pub use input::{MatchedInput, options_behind};
 pub use matchers::Matchers;

@@ -8,7 +8,7 @@ use ariadne_show::{
     show_page, tell_fault,
 };
 use std::env;
-use std::io::{BufReader, IsTerminal, Read, Stdin};
+use std::io::{BufRead, BufReader, IsTerminal, Read};
 use std::process::ExitCode;
 use std::rt::Env;
 
@@ -28,11 +28,6 @@ fn buffered<I: Read + Drop>(rt: &HostRuntime, input: I) -> Result<BufReader<I>, 
     }
 }
 
-/// What the program reads: its inputs, with a report in the place of what a matcher reads.
-type Matched<'a> = BufReader<
-    MatchedInput<'a, HostRuntime, BufReader<Inputs<'a, HostRuntime, Stdin>>>,
->;
-
 /// The options, with what the environment says where they leave it open.
 fn decided<'a>(rt: &HostRuntime, mut options: Options<'a>) -> Result<Options<'a>, Fault> {
     let environment = Environment::of(rt)?;
@@ -42,41 +37,45 @@ fn decided<'a>(rt: &HostRuntime, mut options: Options<'a>) -> Result<Options<'a>
     Ok(options)
 }
 
-/// Shows what inputs tell, as the options ask for.
+/// Shows what inputs tell, as the options ask for. Where an input can't be read, that is told before another fault.
 fn show_inputs(
     rt: &HostRuntime,
     options: Options<'_>,
     inputs: &[Input<'_>],
 ) -> Result<Status, Fault> {
     let options = decided(rt, options)?;
-    let own = own_table(rt, rt.alloc(), options.matcher)?;
-    let matchers = matchers_of(rt.alloc(), &own, options.tool)?;
-    let inputs = buffered(rt, Inputs::new(rt, rt.alloc(), rt.stdin(), inputs))?;
-    let matched = MatchedInput::new(rt, rt.alloc(), &options, matchers, inputs)?;
-    show_matched(rt, &options_behind(options), buffered(rt, matched)?)
+    let mut inputs = Inputs::new(rt, rt.alloc(), rt.stdin(), inputs);
+    match show_read(rt, options, &mut inputs) {
+        Ok(status) => Ok(status),
+        Err(fault) => Err(inputs.into_fault().unwrap_or(fault)),
+    }
 }
 
-/// Shows what is read, as the options ask for. Where an input can't be read, that is told before another fault.
-fn show_matched(
+/// Shows what is read, with a report in the place of what a matcher reads.
+fn show_read<I: Read + Drop>(
+    rt: &HostRuntime,
+    options: Options<'_>,
+    input: I,
+) -> Result<Status, Fault> {
+    let own = own_table(rt, rt.alloc(), options.matcher)?;
+    let matchers = matchers_of(rt.alloc(), &own, options.tool)?;
+    let input = buffered(rt, input)?;
+    let input = MatchedInput::new(rt, rt.alloc(), &options, matchers, input)?;
+    show_matched(rt, &options_behind(options), buffered(rt, input)?)
+}
+
+/// Shows what is read behind the matchers.
+fn show_matched<I: BufRead + Drop>(
     rt: &HostRuntime,
     options: &Options<'_>,
-    mut input: Matched<'_>,
+    mut input: I,
 ) -> Result<Status, Fault> {
     let mut streams = Streams {
         out: RetryInterrupted::new(rt.stdout()),
         beside: RetryInterrupted::new(rt.stderr()),
     };
-    match show(rt, rt.alloc(), options, &mut input, &mut streams) {
-        Ok(sum) => Ok(sum.status(options.fail_on)),
-        Err(fault) => Err(
-            input
-                .into_inner()
-                .into_inner()
-                .into_inner()
-                .into_fault()
-                .unwrap_or(fault),
-        ),
-    }
+    let sum = show(rt, rt.alloc(), options, &mut input, &mut streams)?;
+    Ok(sum.status(options.fail_on))
 }
 
 /// Does what the words ask for.

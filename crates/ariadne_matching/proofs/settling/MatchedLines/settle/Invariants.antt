@@ -1,5 +1,5 @@
 use Rattle.ariadne_matching.specs.SettledLines.{AreSettled}
-use Rattle.ariadne_matching.proofs.input.MatchedInput.settle.Given as goal
+use Rattle.ariadne_matching.proofs.settling.MatchedLines.settle.Given as goal
 
 -- lines wait no more, and what stands for them is ready
 abbrev pub invariant-loop : goal.invariant-loop

@@ -1,6 +1,6 @@
 use Rattle.ariadne_matching.specs.SettledLines.{none}
 use Rattle.ariadne_matching.proofs.Settled.{settled_trans}
-use Rattle.ariadne_matching.proofs.input.MatchedInput.settle.Goals as goal
+use Rattle.ariadne_matching.proofs.settling.MatchedLines.settle.Goals as goal
 
 -- nothing yet
 pub loop-init : goal.loop-init

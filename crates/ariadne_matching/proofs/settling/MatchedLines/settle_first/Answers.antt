@@ -5,7 +5,7 @@ use Rattle.ariadne_matching.specs.SettledLines.{IsHandedFor}
 use Rattle.ariadne_matching.specs.declared.lines.Waiting.{Waiting}
 use Rattle.ariadne_matching.proofs.Settled.{settled_then}
 use Rattle.ariadne_matching.proofs.Telling.{handed_for}
-use Rattle.ariadne_matching.proofs.input.MatchedInput.settle_first.Goals as goal
+use Rattle.ariadne_matching.proofs.settling.MatchedLines.settle_first.Goals as goal
 
 -- the first line passes
 pub returns-then-branch-2 : goal.returns-then-branch-2

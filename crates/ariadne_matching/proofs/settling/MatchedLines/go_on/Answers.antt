@@ -5,8 +5,8 @@ use Rattle.std.specs.declared.alloc.Global.{Global}
 use Rattle.ariadne_matching.specs.SettledLines.{IsToldAgain}
 use Rattle.ariadne_matching.specs.declared.lines.Waiting.{Waiting}
 use Rattle.ariadne_matching.proofs.Settled.{again_first, first_same, settled_none}
-use Rattle.ariadne_matching.proofs.input.MatchedInput.go_on.Goals as goal
-use Rattle.ariadne_matching.proofs.input.MatchedInput.go_on.Goals.{in_default-via-in-Some+in_default, in_default-via-in_default}
+use Rattle.ariadne_matching.proofs.settling.MatchedLines.go_on.Goals as goal
+use Rattle.ariadne_matching.proofs.settling.MatchedLines.go_on.Goals.{in_default-via-in-Some+in_default, in_default-via-in_default}
 
 -- no line waits, or no loop goes on
 pub returns-in_default : goal.returns-in_default

@@ -3,7 +3,7 @@ use Rattle.std.specs.Prelude.{Vec}
 use Rattle.std.specs.declared.alloc.Global.{Global}
 use Rattle.ariadne_matching.specs.declared.lines.Waiting.{Waiting}
 use Rattle.ariadne_matching.proofs.Settled.{handed_first}
-use Rattle.ariadne_matching.proofs.input.MatchedInput.hand_over.Goals as goal
+use Rattle.ariadne_matching.proofs.settling.MatchedLines.hand_over.Goals as goal
 
 -- the lines of the report wait no more
 pub returns : goal.returns

@@ -1,6 +1,6 @@
 use Rattle.std.proofs.Common.{◌∙◌, ◌++◌, ap, arith, refl}
 use Rattle.ariadne_matching.proofs.Settled.{passed_first, settled_none}
-use Rattle.ariadne_matching.proofs.input.MatchedInput.pass_first.Goals as goal
+use Rattle.ariadne_matching.proofs.settling.MatchedLines.pass_first.Goals as goal
 
 -- none waits
 pub returns-then-is_empty : goal.returns-then-is_empty
