@@ -2,6 +2,7 @@
 
 use crate::texts::narrow;
 use std::alloc::{AllocError, Global};
+use std::ops::Range;
 
 /// A piece of a text, by its offsets, and what is said of it.
 #[derive(Drop)]
@@ -9,15 +10,6 @@ pub struct Mark {
     pub start: usize,
     pub end: usize,
     pub message: Option<String>,
-}
-
-/// A mark with a message.
-pub fn said(start: usize, end: usize, message: String) -> Mark {
-    Mark {
-        start,
-        end,
-        message: Some(message),
-    }
 }
 
 /// Marks by number, from 0: each stands `step` behind the one before.
@@ -70,7 +62,7 @@ fn numbered(
     number: u16,
 ) -> Result<Option<String>, AllocError> {
     match word {
-        Some(word) => Ok(Some(format!(in alloc; "{word}{number}")?)),
+        Some(word) => format!(in alloc; "{word}{number}").map(Some),
         None => Ok(None),
     }
 }
@@ -120,7 +112,20 @@ impl Job {
         Ok(job)
     }
 
-    /// The same, in a text of so many numbered lines.
+    /// A job with one mark, which has a message.
+    pub fn of_mark(
+        alloc: Global,
+        message: &'static str,
+        text: String,
+        piece: Range<usize>,
+        said: &str,
+    ) -> Result<Job, AllocError> {
+        let mut job = Job::new(alloc, message, text);
+        job.say(alloc, piece, said)?;
+        Ok(job)
+    }
+
+    /// A job over the first marks of a row, in a text of so many numbered lines.
     pub fn in_lines(
         alloc: Global,
         message: &'static str,
@@ -131,23 +136,40 @@ impl Job {
         Job::of_row(alloc, message, narrow(alloc, lines)?, count, row)
     }
 
-    /// Adds a mark with a message.
+    /// Adds a mark with a message, if there was memory for it.
+    pub fn tell(
+        &mut self,
+        piece: Range<usize>,
+        message: Result<String, AllocError>,
+    ) -> Result<(), AllocError> {
+        self.marks.push(Mark {
+            start: piece.start,
+            end: piece.end,
+            message: Some(message?),
+        })?;
+        Ok(())
+    }
+
+    /// Adds a mark with this message.
     pub fn say(
         &mut self,
         alloc: Global,
-        start: usize,
-        end: usize,
+        piece: Range<usize>,
         message: &str,
     ) -> Result<(), AllocError> {
-        self.marks
-            .push(said(start, end, String::from_str(alloc, message)?))?;
+        self.tell(piece, String::from_str(alloc, message))
+    }
+
+    /// Adds the mark of a row that has this number.
+    pub fn add_one(&mut self, alloc: Global, row: Row, number: u16) -> Result<(), AllocError> {
+        self.marks.push(row.mark(alloc, number)?)?;
         Ok(())
     }
 
     /// Adds the first marks of a row.
     pub fn add(&mut self, alloc: Global, count: u16, row: Row) -> Result<(), AllocError> {
         for number in 0..count {
-            self.marks.push(row.mark(alloc, number)?)?;
+            self.add_one(alloc, row, number)?;
         }
         Ok(())
     }
@@ -155,7 +177,7 @@ impl Job {
     /// The same, from the last of them to number 0.
     pub fn add_falling(&mut self, alloc: Global, count: u16, row: Row) -> Result<(), AllocError> {
         for turn in 0..count {
-            self.marks.push(row.mark(alloc, count - 1 - turn)?)?;
+            self.add_one(alloc, row, count - 1 - turn)?;
         }
         Ok(())
     }

@@ -1,8 +1,8 @@
 //! What the workloads draw that have few labels, or many over many lines.
 
-use crate::job::{Job, Row, said};
+use crate::job::{Job, Row};
 use crate::order::Shape;
-use crate::texts::{LARGE, narrow, tabbed_words, wide, words};
+use crate::texts::{large_text, narrow, tabbed_words, words};
 use std::alloc::{AllocError, Global};
 
 /// Where the words `alpha`, `beta`, `gamma` and `delta` stand in a line.
@@ -10,11 +10,6 @@ const WORDS: &[(usize, usize)] = &[(14, 19), (22, 26), (29, 34), (37, 42)];
 
 /// The lines of a large text that have a label.
 const FAR_LINES: &[usize] = &[99, 99_999, 199_899];
-
-/// Marks over the first seven of each ten characters.
-fn side_by_side() -> Row {
-    Row::said("wide ", 0, 7, 10)
-}
 
 /// The job of a report over one source.
 pub fn job(alloc: Global, shape: Shape, number: u16) -> Result<Job, AllocError> {
@@ -24,16 +19,8 @@ pub fn job(alloc: Global, shape: Shape, number: u16) -> Result<Job, AllocError> 
         Shape::TwoColored => two(alloc, true),
         Shape::Nested => nested(alloc, number, false),
         Shape::NestedColored => nested(alloc, number, true),
-        Shape::Wide => Job::of_row(alloc, "wide", words(alloc, count)?, number, side_by_side()),
-        Shape::Tabbed => {
-            Job::of_row(
-                alloc,
-                "wide",
-                tabbed_words(alloc, count)?,
-                number,
-                side_by_side(),
-            )
-        }
+        Shape::Wide => side_by_side(alloc, words(alloc, count), number),
+        Shape::Tabbed => side_by_side(alloc, tabbed_words(alloc, count), number),
         Shape::Large => large(alloc, false),
         Shape::LargeBytes => large(alloc, true),
         Shape::Lines => {
@@ -54,10 +41,19 @@ pub fn job(alloc: Global, shape: Shape, number: u16) -> Result<Job, AllocError> 
 fn two(alloc: Global, is_colored: bool) -> Result<Job, AllocError> {
     let text = String::from_str(alloc, "apple == orange;")?;
     let mut job = Job::new(alloc, "can't compare apples with oranges", text);
-    job.say(alloc, 0, 5, "This is an apple")?;
-    job.say(alloc, 9, 15, "This is an orange")?;
+    job.say(alloc, 0..5, "This is an apple")?;
+    job.say(alloc, 9..15, "This is an orange")?;
     job.is_colored = is_colored;
     Ok(job)
+}
+
+/// A label over the first seven of each ten characters of a line, if there was memory for it.
+fn side_by_side(
+    alloc: Global,
+    line: Result<String, AllocError>,
+    count: u16,
+) -> Result<Job, AllocError> {
+    Job::of_row(alloc, "wide", line?, count, Row::said("wide ", 0, 7, 10))
 }
 
 /// Four labels in each of `50 * times` lines, and behind those of the last ones `20 * times` labels
@@ -80,18 +76,16 @@ fn nested(alloc: Global, times: u16, is_colored: bool) -> Result<Job, AllocError
 fn add_words(job: &mut Job, alloc: Global, line: u32) -> Result<(), AllocError> {
     let start = 50 * line as usize;
     for (word, (from, to)) in WORDS.iter().enumerate() {
-        let message = format!(in alloc; "inline {line} {word}")?;
-        job.marks.push(said(start + *from, start + *to, message))?;
+        let message = format!(in alloc; "inline {line} {word}");
+        job.tell(start + *from..start + *to, message)?;
     }
     Ok(())
 }
 
 /// Adds a label from one line to another.
 fn add_outer(job: &mut Job, alloc: Global, first: u32, last: u32) -> Result<(), AllocError> {
-    let message = format!(in alloc; "nested {first}")?;
-    let mark = said(50 * first as usize + 4, 50 * last as usize + 48, message);
-    job.marks.push(mark)?;
-    Ok(())
+    let (start, end) = (50 * first as usize + 4, 50 * last as usize + 48);
+    job.tell(start..end, format!(in alloc; "nested {first}"))
 }
 
 /// Three labels far apart in a large text.
@@ -102,22 +96,13 @@ fn large(alloc: Global, in_bytes: bool) -> Result<Job, AllocError> {
     Ok(job)
 }
 
-/// A large text, whose lines have 65 bytes each or 50.
-fn large_text(alloc: Global, in_bytes: bool) -> Result<String, AllocError> {
-    if in_bytes {
-        wide(alloc, LARGE)
-    } else {
-        narrow(alloc, LARGE)
-    }
-}
-
 /// Adds a label near the end of each of the far lines.
 fn add_far(job: &mut Job, alloc: Global, in_bytes: bool) -> Result<(), AllocError> {
     let len = if in_bytes { 65 } else { 50 };
     for line in FAR_LINES {
         let end = len * (*line + 1);
-        let message = format!(in alloc; "line {line}")?;
-        job.marks.push(said(end - 7, end - 2, message))?;
+        let message = format!(in alloc; "line {line}");
+        job.tell(end - 7..end - 2, message)?;
     }
     Ok(())
 }
@@ -136,8 +121,8 @@ fn said_and_silent(alloc: Global, count: u16) -> Result<Job, AllocError> {
     let said = Row::said("said ", 114, 119, 200);
     let mut job = Job::new(alloc, "silent", narrow(alloc, 4 * u32::from(count))?);
     for number in 0..count {
-        job.marks.push(silent.mark(alloc, number)?)?;
-        job.marks.push(said.mark(alloc, number)?)?;
+        job.add_one(alloc, silent, number)?;
+        job.add_one(alloc, said, number)?;
     }
     Ok(job)
 }

@@ -36,17 +36,15 @@ fn header(alloc: Global, count: u16) -> Result<Job, AllocError> {
 
 /// Its text: the long line, and numbered lines below it.
 fn header_text(alloc: Global, count: u16) -> Result<String, AllocError> {
-    let mut text = "\u{e9}b".repeat(alloc, 50_000)?;
-    text.push('\n')?;
-    text.push_str(narrow(alloc, u32::from(count))?.as_str())?;
-    Ok(text)
+    let line = "\u{e9}b".repeat(alloc, 50_000)?;
+    let below = narrow(alloc, u32::from(count))?;
+    format!(in alloc; "{line}\n{below}")
 }
 
 /// Words of ten bytes and nine characters, with a label each. The first one has a message.
 fn bytes(alloc: Global, count: u16) -> Result<Job, AllocError> {
     let text = "\u{e9}bcdefg ,".repeat(alloc, usize::from(count))?;
-    let mut job = Job::new(alloc, "bytesilent", text);
-    job.say(alloc, 2, 5, "first")?;
+    let mut job = Job::of_mark(alloc, "bytesilent", text, 2..5, "first")?;
     job.add(alloc, count.saturating_sub(1), Row::silent(12, 15, 10))?;
     job.in_bytes = true;
     Ok(job)
@@ -56,17 +54,15 @@ fn bytes(alloc: Global, count: u16) -> Result<Job, AllocError> {
 fn trailing(alloc: Global, count: u16) -> Result<Job, AllocError> {
     let mut job = Job::new(alloc, "trailing", trailing_text(alloc)?);
     for number in 0..count {
-        job.marks.push(trailing_row(number).mark(alloc, number)?)?;
+        job.add_one(alloc, trailing_row(number), number)?;
     }
     Ok(job)
 }
 
 /// Both lines.
 fn trailing_text(alloc: Global) -> Result<String, AllocError> {
-    let mut text = String::from_str(alloc, "word")?;
-    text.push_str(" ".repeat(alloc, 100_000)?.as_str())?;
-    text.push_str("\nnext\n")?;
-    Ok(text)
+    let blanks = " ".repeat(alloc, 100_000)?;
+    format!(in alloc; "word{blanks}\nnext\n")
 }
 
 /// The mark of a number in that text: in the line below, or in the long one.
@@ -81,8 +77,8 @@ fn trailing_row(number: u16) -> Row {
 /// A line of so many words of ten characters, which is cut to 80 columns round a label in its middle.
 fn minified(alloc: Global, count: u16) -> Result<Job, AllocError> {
     let start = 10 * (usize::from(count) / 2);
-    let mut job = Job::new(alloc, "minified", words(alloc, u32::from(count))?);
-    job.say(alloc, start, start + 7, "in the middle")?;
+    let line = words(alloc, u32::from(count))?;
+    let mut job = Job::of_mark(alloc, "minified", line, start..start + 7, "in the middle")?;
     job.width = 80;
     Ok(job)
 }
@@ -90,7 +86,7 @@ fn minified(alloc: Global, count: u16) -> Result<Job, AllocError> {
 /// A line of so many characters, two in turn, and a label near its end.
 fn at_end(alloc: Global, two: &str, message: &'static str, count: u16) -> Result<Job, AllocError> {
     let len = usize::from(count);
-    let mut job = Job::new(alloc, message, two.repeat(alloc, len / 2)?);
-    job.say(alloc, len.saturating_sub(8), len.saturating_sub(2), "end")?;
-    Ok(job)
+    let line = two.repeat(alloc, len / 2)?;
+    let piece = len.saturating_sub(8)..len.saturating_sub(2);
+    Job::of_mark(alloc, message, line, piece, "end")
 }

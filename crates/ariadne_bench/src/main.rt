@@ -18,15 +18,13 @@ mod pictures;
 mod texts;
 
 use ariadne::{Cache, Report, Source, Span};
-use ariadne_safe::{LineEnds, SafeReport, SafeSource, SafeSources};
+use ariadne_safe::{SafeReport, SafeSources};
 use job::Job;
 use order::{Kind, Named, Order, Shape, Workload};
 use std::alloc::{AllocError, Global};
 use std::process::ExitCode;
-use std::rt::Clock;
 use std::time::Instant;
 use std::{env, io};
-use texts::LARGE;
 
 /// The status of words that name no workload.
 const USAGE: u8 = 2;
@@ -48,12 +46,7 @@ fn index(alloc: Global, text: &str, rounds: u32) -> Result<Source<&str>, AllocEr
 }
 
 /// Measures the indexing of a text.
-fn measure_index(
-    rt: &(impl AllocGlobal + Clock),
-    text: String,
-    rounds: u32,
-) -> io::Result<Outcome> {
-    let text = text.as_str();
+fn measure_text(rt: &HostRuntime, text: &str, rounds: u32) -> io::Result<Outcome> {
     let start = Instant::now(rt)?;
     let source = index(rt.alloc(), text, rounds)?;
     let nanoseconds = start.elapsed(rt)?.as_nanos();
@@ -64,9 +57,25 @@ fn measure_index(
     })
 }
 
+/// Measures the indexing of a large text, whose characters have a byte each or up to three.
+fn measure_index(rt: &HostRuntime, is_wide: bool, rounds: u32) -> io::Result<Outcome> {
+    let text = texts::large_text(rt.alloc(), is_wide)?;
+    measure_text(rt, text.as_str(), rounds)
+}
+
+/// What rounds returned that began at a time and wrote this picture, and how long they took.
+fn outcome_of(rt: &HostRuntime, start: Instant, picture: &[u8]) -> io::Result<Outcome> {
+    let nanoseconds = start.elapsed(rt)?.as_nanos();
+    Ok(Outcome {
+        bytes: picture.len(),
+        checksum: checksum::of_bytes(picture),
+        nanoseconds,
+    })
+}
+
 /// Measures the writing of a report over a cache.
 fn measure_draw<S: Span, C: Cache<S::SourceId>>(
-    rt: &(impl AllocGlobal + Clock),
+    rt: &HostRuntime,
     report: &Report<'_, S>,
     cache: &mut C,
     rounds: u32,
@@ -76,95 +85,87 @@ fn measure_draw<S: Span, C: Cache<S::SourceId>>(
     let mut out = Vec::new(rt.alloc());
     let start = Instant::now(rt)?;
     pictures::draw(report, cache, rounds, &mut out)?;
-    let nanoseconds = start.elapsed(rt)?.as_nanos();
-    Ok(outcome_of(&out, nanoseconds))
+    outcome_of(rt, start, &out)
 }
 
-/// Measures the writing of a report over one source.
-fn measure_job(rt: &(impl AllocGlobal + Clock), job: Job, rounds: u32) -> io::Result<Outcome> {
-    let report = pictures::report_of(rt.alloc(), &job)?;
-    let mut source = Source::from(rt.alloc(), job.text)?;
+/// Measures the writing of a report over one source, if there was memory for it.
+fn measure_job(rt: &HostRuntime, job: Result<Job, AllocError>, rounds: u32) -> io::Result<Outcome> {
+    let (report, mut source) = pictures::report_and_source(rt.alloc(), job?)?;
     measure_draw(rt, &report, &mut source, rounds)
 }
 
 /// Measures the writing of a safe report.
 fn measure_draw_safely(
-    rt: &(impl AllocGlobal + Clock),
+    rt: &HostRuntime,
     report: &SafeReport<'_>,
     rounds: u32,
 ) -> io::Result<Outcome> {
     let mut out = Vec::new(rt.alloc());
     let start = Instant::now(rt)?;
     pictures::draw_safely(report, rounds, &mut out)?;
-    let nanoseconds = start.elapsed(rt)?.as_nanos();
-    Ok(outcome_of(&out, nanoseconds))
+    outcome_of(rt, start, &out)
 }
 
-/// Measures the safe writing of a report over one source.
-fn measure_safe(rt: &(impl AllocGlobal + Clock), job: Job, rounds: u32) -> io::Result<Outcome> {
-    let mut sources = SafeSources::new(rt.alloc());
-    sources.add(SafeSource::new(rt.alloc(), job.text.as_str(), LineEnds::All)?)?;
-    let report = pictures::safe_report_of(rt.alloc(), &job, &sources)?;
+/// Measures the safe writing of a report over the first of these sources.
+fn measure_over(
+    rt: &HostRuntime,
+    job: &Job,
+    sources: &SafeSources,
+    rounds: u32,
+) -> io::Result<Outcome> {
+    let report = pictures::safe_report_of(rt.alloc(), job, sources)?;
     measure_draw_safely(rt, &report, rounds)
 }
 
-/// Measures the writing of a report with so many labels over sources that have names.
-fn measure_named(
-    rt: &(impl AllocGlobal + Clock),
-    named: Named,
-    labels: u16,
+/// Measures the safe writing of a report over one source, if there was memory for it.
+fn measure_safe(
+    rt: &HostRuntime,
+    job: Result<Job, AllocError>,
     rounds: u32,
 ) -> io::Result<Outcome> {
+    let job = job?;
+    let sources = pictures::safe_sources(rt.alloc(), job.text.as_str())?;
+    measure_over(rt, &job, &sources, rounds)
+}
+
+/// Measures the writing of a report with so many labels over sources that have names.
+fn measure_named(rt: &HostRuntime, named: Named, labels: u16, rounds: u32) -> io::Result<Outcome> {
     let report = named::report(rt.alloc(), named, labels)?;
     let mut cache = named::texts(rt.alloc(), named, labels)?;
     measure_draw(rt, &report, &mut cache, rounds)
 }
 
-/// What the writing of this picture returned.
-fn outcome_of(picture: &[u8], nanoseconds: u128) -> Outcome {
-    Outcome {
-        bytes: picture.len(),
-        checksum: checksum::of_bytes(picture),
-        nanoseconds,
-    }
-}
-
 /// Measures a workload.
-fn measure(rt: &(impl AllocGlobal + Clock), order: &Order<'_>) -> io::Result<Outcome> {
+fn measure(rt: &HostRuntime, order: &Order<'_>) -> io::Result<Outcome> {
     let (alloc, rounds) = (rt.alloc(), order.rounds);
     let Workload { kind, number } = order.workload;
     match kind {
-        Kind::Index => measure_index(rt, texts::narrow(alloc, LARGE)?, rounds),
-        Kind::IndexBytes => measure_index(rt, texts::wide(alloc, LARGE)?, rounds),
-        Kind::TwoSafe => measure_safe(rt, jobs::job(alloc, Shape::Two, number)?, rounds),
-        Kind::Drawn(shape) => measure_job(rt, jobs::job(alloc, shape, number)?, rounds),
-        Kind::LongLine(line) => measure_job(rt, long_lines::job(alloc, line, number)?, rounds),
-        Kind::ManyLabels(many) => measure_job(rt, many_labels::job(alloc, many, number)?, rounds),
+        Kind::Index => measure_index(rt, false, rounds),
+        Kind::IndexBytes => measure_index(rt, true, rounds),
+        Kind::TwoSafe => measure_safe(rt, jobs::job(alloc, Shape::Two, number), rounds),
+        Kind::Drawn(shape) => measure_job(rt, jobs::job(alloc, shape, number), rounds),
+        Kind::LongLine(line) => measure_job(rt, long_lines::job(alloc, line, number), rounds),
+        Kind::ManyLabels(many) => measure_job(rt, many_labels::job(alloc, many, number), rounds),
         Kind::Named(named) => measure_named(rt, named, number, rounds),
     }
 }
 
 /// Runs what was ordered, and prints its line, with the time that it took or without.
-fn run(
-    rt: &(impl Print + AllocGlobal + Clock),
-    order: &Order<'_>,
-    has_time: bool,
-) -> io::Result<()> {
+fn run(rt: &HostRuntime, order: &Order<'_>, has_time: bool) -> io::Result<()> {
     let Outcome {
         bytes,
         checksum,
         nanoseconds,
     } = measure(rt, order)?;
-    let (name, rounds) = (order.name, order.rounds);
+    print!(rt; "{} {} {bytes} {checksum:016x}", order.name, order.rounds)?;
     if has_time {
-        println!(rt; "{name} {rounds} {bytes} {checksum:016x} {nanoseconds}")
-    } else {
-        println!(rt; "{name} {rounds} {bytes} {checksum:016x}")
+        print!(rt; " {nanoseconds}")?;
     }
+    println!(rt)
 }
 
 /// Runs what two words order, and returns whether they name a workload and how often.
-fn run_words(rt: &(impl Print + AllocGlobal + Clock), words: &[String]) -> io::Result<bool> {
+fn run_words(rt: &HostRuntime, words: &[String]) -> io::Result<bool> {
     let Some(order) = Order::from_words(words) else {
         return Ok(false);
     };
@@ -173,7 +174,7 @@ fn run_words(rt: &(impl Print + AllocGlobal + Clock), words: &[String]) -> io::R
 }
 
 /// Runs workloads once each, and returns whether each name is that of one.
-fn check(rt: &(impl Print + AllocGlobal + Clock), names: &[String]) -> io::Result<bool> {
+fn check(rt: &HostRuntime, names: &[String]) -> io::Result<bool> {
     for name in names {
         let Some(order) = Order::once(name.as_str()) else {
             return Ok(false);
@@ -193,8 +194,7 @@ fn print(rt: &HostRuntime, report: &Report<'_>, source: &mut Source<String>) -> 
 /// Prints the picture of `two`.
 fn print_two(rt: &HostRuntime) -> io::Result<()> {
     let job = jobs::job(rt.alloc(), Shape::Two, 2)?;
-    let report = pictures::report_of(rt.alloc(), &job)?;
-    let mut source = Source::from(rt.alloc(), job.text)?;
+    let (report, mut source) = pictures::report_and_source(rt.alloc(), job)?;
     print(rt, &report, &mut source)
 }
 
@@ -206,11 +206,7 @@ fn print_and_check(rt: &HostRuntime, names: &[String]) -> io::Result<bool> {
 
 /// The words behind the program's name.
 fn words_of(rt: &HostRuntime) -> io::Result<Vec<String>> {
-    let mut words = Vec::new(rt.alloc());
-    for word in env::args(rt)?.skip(1) {
-        words.push(word)?;
-    }
-    Ok(words)
+    Ok(env::args(rt)?.skip(1).collect(rt.alloc())?)
 }
 
 /// Does what words order, and returns whether they order something.

@@ -1,6 +1,6 @@
 //! What the workloads draw that have many labels on one line, or many groups or lines of them.
 
-use crate::job::{Job, Row, said};
+use crate::job::{Job, Row};
 use crate::order::ManyLabels;
 use crate::texts::{narrow, words};
 use std::alloc::{AllocError, Global};
@@ -10,7 +10,6 @@ const SILENT_LINES: u8 = 40;
 
 /// The job of a report with many labels over one source.
 pub fn job(alloc: Global, labels: ManyLabels, number: u16) -> Result<Job, AllocError> {
-    let count = u32::from(number);
     match labels {
         ManyLabels::Under => under(alloc, number),
         ManyLabels::SilentLines => silent_lines(alloc, number),
@@ -20,10 +19,7 @@ pub fn job(alloc: Global, labels: ManyLabels, number: u16) -> Result<Job, AllocE
             Job::in_lines(alloc, "onechar", 1, number, Row::said("m", 14, 15, 0))
         }
         ManyLabels::Falling => falling(alloc, number),
-        ManyLabels::CrossingInLine => {
-            let row = Row::said("c", 0, 10 * count + 7, 10);
-            Job::of_row(alloc, "linecross", words(alloc, 2 * count)?, number, row)
-        }
+        ManyLabels::CrossingInLine => crossing(alloc, number),
         ManyLabels::LongMessages => long_messages(alloc, number),
         ManyLabels::Empty => empty(alloc, number),
         ManyLabels::LeftOut => left_out(alloc, number),
@@ -43,7 +39,7 @@ fn under(alloc: Global, count: u16) -> Result<Job, AllocError> {
 /// behind it so many without.
 fn add_line(job: &mut Job, alloc: Global, line: u8, count: u16) -> Result<(), AllocError> {
     let offset = u32::from(line) * (10 * (u32::from(count) + 1) + 1);
-    job.say(alloc, offset as usize, offset as usize + 7, "first")?;
+    job.say(alloc, offset as usize..offset as usize + 7, "first")?;
     job.add(alloc, count, Row::silent(offset + 10, offset + 17, 10))
 }
 
@@ -86,13 +82,19 @@ fn falling(alloc: Global, count: u16) -> Result<Job, AllocError> {
     Ok(job)
 }
 
+/// Labels over one line, of which each crosses all others.
+fn crossing(alloc: Global, number: u16) -> Result<Job, AllocError> {
+    let count = u32::from(number);
+    let row = Row::said("c", 0, 10 * count + 7, 10);
+    Job::of_row(alloc, "linecross", words(alloc, 2 * count)?, number, row)
+}
+
 /// A label with a message of 9,000 characters on each line.
 fn long_messages(alloc: Global, count: u16) -> Result<Job, AllocError> {
     let mut job = Job::new(alloc, "longmsg", narrow(alloc, u32::from(count))?);
     for number in 0..count {
         let start = 50 * usize::from(number);
-        let message = long_message(alloc, number)?;
-        job.marks.push(said(start + 14, start + 19, message))?;
+        job.tell(start + 14..start + 19, long_message(alloc, number))?;
     }
     Ok(job)
 }
@@ -112,8 +114,7 @@ fn empty(alloc: Global, count: u16) -> Result<Job, AllocError> {
 
 /// A label that is drawn, and labels past the text.
 fn left_out(alloc: Global, count: u16) -> Result<Job, AllocError> {
-    let mut job = Job::new(alloc, "leftout", narrow(alloc, 1)?);
-    job.say(alloc, 14, 19, "m")?;
+    let mut job = Job::of_mark(alloc, "leftout", narrow(alloc, 1)?, 14..19, "m")?;
     job.add(alloc, count, Row::said("x", 1000, 1001, 0))?;
     Ok(job)
 }

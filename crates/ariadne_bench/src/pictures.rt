@@ -4,9 +4,10 @@ ghost use Rattle.std.specs.Prelude.{◌≤◌};
 
 use crate::job::{Job, Mark};
 use ariadne::{
-    Cache, CharSet, Color, Config, IndexType, Label, Report, ReportBuilder, ReportKind, Span,
+    Cache, CharSet, Color, Config, IndexType, Label, Report, ReportBuilder, ReportKind, Source,
+    Span,
 };
-use ariadne_safe::{SafeBuilder, SafeKind, SafeReport, SafeSources};
+use ariadne_safe::{LineEnds, SafeBuilder, SafeKind, SafeReport, SafeSource, SafeSources};
 use std::alloc::{AllocError, Global};
 use std::io;
 use std::ops::Range;
@@ -70,17 +71,33 @@ pub fn report_of(alloc: Global, job: &Job) -> Result<Report<'static>, AllocError
     Ok(report.finish())
 }
 
+/// The report of a job, and its source.
+pub fn report_and_source(
+    alloc: Global,
+    job: Job,
+) -> Result<(Report<'static>, Source<String>), AllocError> {
+    let report = report_of(alloc, &job)?;
+    Ok((report, Source::from(alloc, job.text)?))
+}
+
 /// Adds the labels of a job to a report.
 fn add_labels(alloc: Global, report: &mut ReportBuilder<'_>, job: &Job) -> Result<(), AllocError> {
     for (number, mark) in job.marks.iter().enumerate() {
         let label = label_of(alloc, mark)?;
-        if job.is_colored {
-            report.add_label(colored(label, number))?;
+        report.add_label(if job.is_colored {
+            colored(label, number)
         } else {
-            report.add_label(label)?;
-        }
+            label
+        })?;
     }
     Ok(())
+}
+
+/// One safe source.
+pub fn safe_sources(alloc: Global, text: &str) -> Result<SafeSources, AllocError> {
+    let mut sources = SafeSources::new(alloc);
+    sources.add(SafeSource::new(alloc, text, LineEnds::All)?)?;
+    Ok(sources)
 }
 
 /// The safe report of a job that has no colours, over the first of these sources.

@@ -3,7 +3,7 @@
 use std::alloc::{AllocError, Global};
 
 /// The number of lines of a large text.
-pub const LARGE: u32 = 200_000;
+const LARGE: u32 = 200_000;
 
 /// The characters of a line, its line feed among them.
 const LINE_LEN: usize = 50;
@@ -52,8 +52,17 @@ fn other_at(others: &[(usize, char)], place: usize) -> Option<char> {
 
 /// A text of so many numbered lines with two bytes for every tenth character, from the first of a
 /// line, and three bytes for the characters midway between them.
-pub fn wide(alloc: Global, lines: u32) -> Result<String, AllocError> {
+fn wide(alloc: Global, lines: u32) -> Result<String, AllocError> {
     replaced(alloc, narrow(alloc, lines)?.as_str(), WIDE)
+}
+
+/// A text of many lines, of 50 characters each, which have a byte each or up to three.
+pub fn large_text(alloc: Global, is_wide: bool) -> Result<String, AllocError> {
+    if is_wide {
+        wide(alloc, LARGE)
+    } else {
+        narrow(alloc, LARGE)
+    }
 }
 
 /// One line of so many numbered words of ten characters each.
