@@ -94,7 +94,6 @@ static ROWS: [&str; 13] = [
 #[test]
 fn an_id_is_shown_under_a_title(rt: HostRuntime) {
     let mut cache = cache(rt.alloc()).expect(&rt, "memory");
-    let report = report(rt.alloc()).expect(&rt, "memory");
-    let picture = picture_of(&rt, &report, &mut cache);
+    let picture = picture_of(&rt, report(rt.alloc()), &mut cache);
     assert_rows(&rt, picture.as_str(), &ROWS)
 }

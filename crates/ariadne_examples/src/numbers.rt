@@ -52,7 +52,7 @@ static ROWS: [&str; 13] = [
 #[test]
 fn labels_in_files_by_number(rt: HostRuntime) {
     let mut files = SourceTable::new(rt.alloc());
-    let report = report(rt.alloc(), &mut files).expect(&rt, "memory");
-    let picture = picture_of(&rt, &report, &mut files);
+    let report = report(rt.alloc(), &mut files);
+    let picture = picture_of(&rt, report, &mut files);
     assert_rows(&rt, picture.as_str(), &ROWS)
 }

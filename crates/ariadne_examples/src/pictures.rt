@@ -14,14 +14,15 @@ pub(crate) fn plain() -> Config {
 }
 
 /// The picture that a report writes over a cache. No label may be left out.
-pub(crate) fn picture_of<S: Span, C: Cache<S::SourceId>>(
+pub(crate) fn picture_of<S: Span + Drop, C: Cache<S::SourceId>>(
     rt: &(impl Abort + AllocGlobal),
-    report: &Report<'_, S>,
+    report: Result<Report<'_, S>, AllocError>,
     cache: &mut C,
 ) -> String
     requires { C.can_fetch cache.old }
 {
     let mut out = Vec::new(rt.alloc());
+    let report = report.expect(rt, "memory");
     let left_out = report.write(cache, &mut out).expect(rt, "a picture");
     assert!(rt; left_out.is_empty());
     String::from_utf8(out).expect(rt, "text")
@@ -33,36 +34,22 @@ pub(crate) fn picture_over<S: Span<SourceId = ()> + Drop>(
     report: Result<Report<'_, S>, AllocError>,
     text: &str,
 ) -> String {
-    let report = report.expect(rt, "memory");
     let mut source = Source::from(rt.alloc(), text).expect(rt, "memory");
-    picture_of(rt, &report, &mut source)
+    picture_of(rt, report, &mut source)
 }
 
-/// Rows, each with a line feed behind it.
-fn joined(alloc: Global, rows: &[&str]) -> Result<String, AllocError> {
-    let mut text = String::new(alloc);
-    for row in rows {
-        text.push_str(row)?;
-        text.push('\n')?;
-    }
-    Ok(text)
-}
-
-/// A text without the blanks at the ends of its rows, each of which ends in a line feed.
-fn trimmed(alloc: Global, picture: &str) -> Result<String, AllocError> {
-    let mut text = String::new(alloc);
-    for row in picture.split_terminator('\n') {
-        text.push_str(row.trim_end_matches(' '))?;
-        text.push('\n')?;
-    }
-    Ok(text)
+/// The rows of a picture without the blanks at their ends.
+fn rows_of(alloc: Global, picture: &str) -> Result<Vec<&str>, AllocError> {
+    picture
+        .split_terminator('\n')
+        .map(|row| row.trim_end_matches(' '))
+        .collect(alloc)
 }
 
 /// Asserts that a picture has these rows, but for the blanks at their ends.
 pub(crate) fn assert_rows(rt: &(impl Abort + AllocGlobal), picture: &str, rows: &[&str]) {
-    let want = joined(rt.alloc(), rows).expect(rt, "memory");
-    let picture = trimmed(rt.alloc(), picture).expect(rt, "memory");
-    assert_eq!(rt; picture.as_str(), want.as_str());
+    let found = rows_of(rt.alloc(), picture).expect(rt, "memory");
+    assert_eq!(rt; found.as_slice(), rows)
 }
 
 /// A warning over a list of more than one line.
