@@ -52,9 +52,10 @@ impl Refusal {
     fn report(&self, alloc: Global) -> Result<Report<'static>, AllocError> {
         let (code, start, end, hint) = self.parts();
         let message = self.to_string(alloc)?;
+        let label = label(alloc, start, end, hint)?;
         let report = Report::build(alloc, ReportKind::Error, start..start)
             .with_config(plain())
-            .with_labels(label(alloc, start, end, hint)?)?
+            .with_labels(label)?
             .with_code(code)?
             .with_message(message.as_str())?;
         Ok(report.finish())
@@ -64,7 +65,7 @@ impl Refusal {
 /// A label from `start` to `end`, unless that is in front of `start`.
 fn label(alloc: Global, start: usize, end: usize, hint: &str) -> Result<Option<Label>, AllocError> {
     if start <= end {
-        Ok(Some(Label::new(start..end).with_message(alloc, hint)?))
+        Label::new(start..end).with_message(alloc, hint).map(Some)
     } else {
         Ok(None)
     }
