@@ -70,41 +70,44 @@ fn drawn(
     (String::from_utf8(out).expect(rt, "text"), left_out)
 }
 
-/// The row of a picture that names a file, of these signs, the file and a place.
-fn named(rt: &(impl Abort + AllocGlobal), signs: &str, path: &str, place: &str) -> String {
-    format!(in rt.alloc(); "   {signs}[ {path}:{place} ]").expect(rt, "memory")
+/// A picture with the names of these files in place of their paths.
+fn with_names(alloc: Global, picture: &str, pie: &str, fruit: &str) -> Result<String, AllocError> {
+    let picture = picture.replace(alloc, pie, "pie.txt")?;
+    picture.as_str().replace(alloc, fruit, "fruit.txt")
 }
+
+/// The picture of the report.
+static ROWS: [&str; 13] = [
+    "Error: can't add a text to a number",
+    "   ,-[ pie.txt:1:19 ]",
+    "   |",
+    " 1 | let pie = apple + \"crust\";",
+    "   |                   ^^^|^^^",
+    "   |                      `----- this is a text",
+    "   |",
+    "   |-[ fruit.txt:1:5 ]",
+    "   |",
+    " 1 | let apple = 3;",
+    "   |     ^^|^^",
+    "   |       `---- declared as a number here",
+    "---'",
+];
 
 /// Asserts that no label is left out of the picture over these files, and that it is this one.
 fn assert_both(rt: &(impl Abort + AllocGlobal + Files), pie: &str, fruit: &str) {
     let (picture, left_out) = drawn(rt, pie, fruit);
     assert!(rt; left_out.is_empty());
-    let first = named(rt, ",-", pie, "1:19");
-    let second = named(rt, "|-", fruit, "1:5");
-    let rows = [
-        "Error: can't add a text to a number",
-        first.as_str(),
-        "   |",
-        " 1 | let pie = apple + \"crust\";",
-        "   |                   ^^^|^^^",
-        "   |                      `----- this is a text",
-        "   |",
-        second.as_str(),
-        "   |",
-        " 1 | let apple = 3;",
-        "   |     ^^|^^",
-        "   |       `---- declared as a number here",
-        "---'",
-    ];
-    assert_rows(rt, picture.as_str(), &rows)
+    let picture = with_names(rt.alloc(), picture.as_str(), pie, fruit).expect(rt, "memory");
+    assert_rows(rt, picture.as_str(), &ROWS)
 }
 
-/// Asserts that the second label is left out since its file is not there.
-fn assert_missing(rt: &(impl Abort + AllocGlobal), left: &LeftOut<FileError>) {
-    assert_eq!(rt; left.label, 1);
+/// Asserts that the second label alone is left out, since its file is not there.
+fn assert_missing(rt: &(impl Abort + AllocGlobal), left_out: &[LeftOut<FileError>]) {
+    let left = left_out.first().expect(rt, "a label that is left out");
     let fault = fault(left).expect(rt, "a fault");
     let told = fault.to_string(rt.alloc()).expect(rt, "memory");
-    assert_eq!(rt; told.as_str(), "No such file or directory (os error 2)")
+    let want = (1, 1, "No such file or directory (os error 2)");
+    assert_eq!(rt; (left_out.len(), left.label, told.as_str()), want)
 }
 
 #[test]
@@ -122,9 +125,6 @@ fn a_file_that_is_not_there_takes_away_its_labels_alone(rt: HostRuntime) {
     let pie = pie(&rt, &folder);
     let (picture, left_out) = drawn(&rt, pie.as_str(), "no such file");
     assert!(rt; picture.ends_with("this is a text\n---'\n"));
-    assert_eq!(rt; left_out.len(), 1);
-    for left in &left_out {
-        assert_missing(&rt, left)
-    }
+    assert_missing(&rt, left_out.as_slice());
     folder.remove(&rt).expect(&rt, "no folder")
 }
