@@ -1,6 +1,6 @@
 //! Characters that are counted, and found, in texts of many bytes.
 
-use crate::comparing::assert_same;
+use crate::comparing::assert_is;
 use ariadne_base::blocks::count::count_chars;
 use ariadne_base::blocks::place::byte_of_char;
 
@@ -21,16 +21,9 @@ const PLACES: &[(usize, usize)] = &[
 
 #[test]
 fn characters_are_counted_and_found(rt: HostRuntime) {
-    assert_same(
-        &rt,
-        &(count_chars(""), count_chars("é漢"), count_chars(MIXED)),
-        &(0, 2, 66),
-    );
-    for (number, place) in PLACES {
-        assert_same(
-            &rt,
-            &(*number, byte_of_char(MIXED, *number)),
-            &(*number, *place),
-        );
+    let counts = (count_chars(""), count_chars("é漢"), count_chars(MIXED));
+    assert_is(&rt, counts, (0, 2, 66));
+    for &(number, place) in PLACES {
+        assert_is(&rt, (number, byte_of_char(MIXED, number)), (number, place))
     }
 }

@@ -2,10 +2,12 @@
 
 ghost use Rattle.std.specs.Prelude.{◌<◌, ◌≤◌};
 
-use crate::comparing::{assert_same, assert_same_of};
+use crate::caches::owned;
+use crate::comparing::{assert_is, assert_is_of};
 use ariadne::{CharSet, IndexType, Source};
 use ariadne_edits::{BadEdit, Edit, EditError, View, edited, suggestion};
 use ariadne_testing::{refuse, was_refused};
+use std::alloc::Global;
 use std::process::Abort;
 
 /// More than one suggestion takes.
@@ -83,13 +85,12 @@ const SHOWN: &[(&str, &[Piece], &str)] = &[
 fn edits_of(rt: &(impl Abort + AllocGlobal), pieces: &[Piece]) -> Vec<Edit> {
     let mut edits = Vec::new(rt.alloc());
     for (start, end, text) in pieces {
-        let text = String::from_str(rt.alloc(), *text).expect(rt, "memory");
-        edits
-            .push(Edit {
-                span: *start..*end,
-                text,
-            })
-            .expect(rt, "memory");
+        let text = owned(rt, *text);
+        let edit = Edit {
+            span: *start..*end,
+            text,
+        };
+        edits.push(edit).expect(rt, "memory");
     }
     edits
 }
@@ -185,27 +186,36 @@ const CUT: &[(&str, &[Piece], usize, CharSet, &str)] = &[
     ),
 ];
 
-/// What a help says of edits, or an empty text where they are refused.
-fn help_of(rt: &(impl Abort + AllocGlobal), text: &str, pieces: &[Piece], view: View) -> String
+/// What a help says of edits of a source, or an empty text where they are refused.
+fn help_over(
+    rt: &(impl Abort + AllocGlobal),
+    source: &Source<&str>,
+    counts: IndexType,
+    pieces: &[Piece],
+    view: View,
+) -> String
     requires { 1 ≤ view.tab_width }
 {
-    let source = Source::from(rt.alloc(), text).expect(rt, "memory");
     let edits = edits_of(rt, pieces);
-    match suggestion(rt.alloc(), &source, IndexType::Char, view, edits.as_slice()) {
+    match suggestion(rt.alloc(), source, counts, view, edits.as_slice()) {
         Ok(help) => help,
         Err(_) => String::new(rt.alloc()),
     }
 }
 
+/// What a help says of edits of a text, whose offsets count characters.
+fn help_of(rt: &(impl Abort + AllocGlobal), text: &str, pieces: &[Piece], view: View) -> String
+    requires { 1 ≤ view.tab_width }
+{
+    let source = Source::from(rt.alloc(), text).expect(rt, "memory");
+    help_over(rt, &source, IndexType::Char, pieces, view)
+}
+
 #[test]
 fn lines_are_shown_before_and_after(rt: HostRuntime) {
     for (text, pieces, want) in SHOWN {
-        assert_same_of(
-            &rt,
-            *text,
-            &help_of(&rt, *text, *pieces, WHOLE).as_str(),
-            want,
-        );
+        let help = help_of(&rt, *text, *pieces, WHOLE);
+        assert_is_of(&rt, *text, help.as_str(), *want)
     }
 }
 
@@ -217,30 +227,24 @@ fn lines_are_cut_around_their_first_difference(rt: HostRuntime) {
             width: *width,
             char_set: *char_set,
         };
-        assert_same_of(
-            &rt,
-            *text,
-            &help_of(&rt, *text, *pieces, view).as_str(),
-            want,
-        );
+        let help = help_of(&rt, *text, *pieces, view);
+        assert_is_of(&rt, *text, help.as_str(), *want)
     }
+}
+
+/// A source of two lines, of which the first has the number 9.
+fn offset_source(rt: &(impl Abort + AllocGlobal)) -> Source<&'static str> {
+    let source = Source::from(rt.alloc(), "a\nb\n").expect(rt, "memory");
+    assert!(rt; source.lines().len() < 9);
+    source.with_display_line_offset(8)
 }
 
 #[test]
 fn numbers_have_the_display_offset(rt: HostRuntime) {
-    let source = Source::from(rt.alloc(), "a\nb\n").expect(&rt, "memory");
-    assert!(rt; source.lines().len() < 9);
-    let source = source.with_display_line_offset(8);
-    let edits = edits_of(&rt, &[(0, 1, "A"), (2, 3, "B")]);
-    let help = suggestion(
-        rt.alloc(),
-        &source,
-        IndexType::Byte,
-        WHOLE,
-        edits.as_slice(),
-    );
-    let want = " 9 - a\n10 - b\n 9 + A\n10 + B";
-    assert_same(&rt, &help.ok().map(|it| it.as_str() == want), &Some(true));
+    let source = offset_source(&rt);
+    let pieces: &[Piece] = &[(0, 1, "A"), (2, 3, "B")];
+    let help = help_over(&rt, &source, IndexType::Byte, pieces, WHOLE);
+    assert_is(&rt, help.as_str(), " 9 - a\n10 - b\n 9 + A\n10 + B")
 }
 
 /// Texts and edits that are refused, by what their offsets count, and why.
@@ -277,15 +281,20 @@ const REFUSED: &[(&str, IndexType, &[Piece], BadEdit)] = &[
     ),
 ];
 
+/// Why edits of a text are refused, where they are.
+fn refusal(alloc: Global, text: &str, counts: IndexType, edits: &[Edit]) -> Option<BadEdit> {
+    match edited(alloc, text, counts, edits) {
+        Err(EditError::Refused(bad)) => Some(bad),
+        _ => None,
+    }
+}
+
 #[test]
 fn faulty_edits_are_told_by_number(rt: HostRuntime) {
     for (text, counts, pieces, want) in REFUSED {
         let edits = edits_of(&rt, *pieces);
-        let found = match edited(rt.alloc(), *text, *counts, edits.as_slice()) {
-            Err(EditError::Refused(bad)) => Some(bad),
-            _ => None,
-        };
-        assert_same_of(&rt, *text, &found, &Some(*want));
+        let found = refusal(rt.alloc(), *text, *counts, edits.as_slice());
+        assert_is_of(&rt, *text, found, Some(*want))
     }
 }
 
@@ -306,7 +315,7 @@ fn is_made_without(rt: &(impl Abort + AllocGlobal), nth: usize) -> bool
     );
     let is_refused = was_refused(rt.alloc());
     let is_memory = matches!(help, Err(EditError::Memory(_)));
-    assert_same(rt, &(nth, is_memory), &(nth, is_refused));
+    assert_is(rt, (nth, is_memory), (nth, is_refused));
     !is_refused
 }
 

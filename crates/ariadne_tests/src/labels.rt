@@ -1,7 +1,9 @@
 //! Labels are equal by all that they hold, and equal ones have one hash.
 
-use crate::comparing::assert_same;
-use ariadne::{Color, Label};
+ghost use Rattle.std.specs.Prelude.{◌≤◌};
+
+use crate::comparing::{assert_is, assert_same};
+use ariadne::{Color, Label, Span};
 use std::alloc::{AllocError, Global};
 use std::hash::{DefaultHasher, Hash, Hasher};
 use std::process::Abort;
@@ -23,8 +25,8 @@ fn hash_of(label: &Label) -> u64 {
 /// Asserts that a copy of a label equals it, and has its hash.
 fn assert_copied(rt: &(impl Abort + AllocGlobal), label: &Label) {
     let copy = label.clone().expect(rt, "memory");
-    assert!(rt; copy == *label);
-    assert_same(rt, &hash_of(&copy), &hash_of(label))
+    assert_same(rt, &copy, label);
+    assert_is(rt, hash_of(&copy), hash_of(label))
 }
 
 #[test]
@@ -40,9 +42,16 @@ fn other(alloc: Global, field: u8) -> Result<Label, AllocError> {
         0 => Ok(Label::new(1..3)),
         1 => Label::new(1..4).with_message(alloc, "m"),
         2 => full(alloc)?.with_message(alloc, ""),
-        3 => Ok(full(alloc)?.with_color(Color::Rgb(1, 2, 4))),
-        4 => Ok(full(alloc)?.with_order(-3)),
-        _ => Ok(full(alloc)?.with_priority(4)),
+        _ => Ok(changed(full(alloc)?, field)),
+    }
+}
+
+/// A label with another colour, order or priority.
+fn changed(label: Label, field: u8) -> Label {
+    match field {
+        3 => label.with_color(Color::Rgb(1, 2, 4)),
+        4 => label.with_order(-3),
+        _ => label.with_priority(4),
     }
 }
 
@@ -53,15 +62,27 @@ fn is_full(rt: &(impl Abort + AllocGlobal), label: Result<Label, AllocError>) ->
 
 #[test]
 fn each_field_makes_a_label_another(rt: HostRuntime) {
-    assert!(rt; is_full(&rt, full(rt.alloc())));
+    assert_is(&rt, is_full(&rt, full(rt.alloc())), true);
     for field in 0..6u8 {
-        assert!(rt; !is_full(&rt, other(rt.alloc(), field)), "{field}");
+        let is_full = is_full(&rt, other(rt.alloc(), field));
+        assert_is(&rt, (field, is_full), (field, false))
     }
+}
+
+/// Whether the labels of two spans are equal.
+fn are_same<S: Span + Eq + Drop>(first: S, second: S) -> bool
+    requires first_rises { S.start_of first ≤ S.end_of first }
+    requires second_rises { S.start_of second ≤ S.end_of second }
+{
+    Label::new(first) == Label::new(second)
 }
 
 #[test]
 fn labels_are_compared_by_their_spans_too(rt: HostRuntime) {
-    assert!(rt; Label::new((7u8, 0..1)) == Label::new((7u8, 0..1)));
-    assert!(rt; Label::new((7u8, 0..1)) != Label::new((8u8, 0..1)));
-    assert!(rt; Label::new(0..=1) != Label::new(0..=2));
+    let are_same = (
+        are_same((7u8, 0..1), (7u8, 0..1)),
+        are_same((7u8, 0..1), (8u8, 0..1)),
+        are_same(0..=1, 0..=2),
+    );
+    assert_is(&rt, are_same, (true, false, false))
 }

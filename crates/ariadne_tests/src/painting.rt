@@ -3,7 +3,7 @@
 ghost use Rattle.std.specs.Prelude.{◌≡◌, ◌++◌, IfOk, decimal, encode_utf8, string_bytes};
 ghost use Rattle.ariadne_color.specs.Colors.{background, foreground, painted_in};
 
-use crate::comparing::{assert_same, assert_text};
+use crate::comparing::{assert_is, assert_text};
 use ariadne::{Color, ColorGenerator, Fmt};
 use ariadne_color::color::{numbers_rise_evenly, push_painted, push_painted_char};
 use std::alloc::{AllocError, Global};
@@ -137,21 +137,29 @@ fn pushed_plain(alloc: Global) -> Result<String, AllocError> {
     Ok(out)
 }
 
+/// Asserts that two texts were made, and are the same.
+fn assert_texts(
+    rt: &impl Abort,
+    found: Result<String, AllocError>,
+    wanted: Result<String, AllocError>,
+) {
+    assert_text(rt, found, wanted.expect(rt, "memory").as_str())
+}
+
 /// Asserts what a colour looks like in front, where it is pushed, and behind.
-fn assert_color(rt: &(impl Abort + AllocGlobal), color: Color, front: &str, behind: &str) {
-    let alloc = rt.alloc();
-    let want = escaped(alloc, front).expect(rt, "memory");
-    assert_text(rt, painted_char(alloc, 'é', Some(color)), want.as_str());
-    let want = escaped_twice(alloc, front).expect(rt, "memory");
-    assert_text(rt, pushed_twice(alloc, color), want.as_str());
-    let want = escaped(alloc, behind).expect(rt, "memory");
-    assert_text(rt, painted_text(alloc, "é", Some(color)), want.as_str())
+fn assert_color(rt: &impl Abort, alloc: Global, color: Color, front: &str, behind: &str) {
+    let found = painted_char(alloc, 'é', Some(color));
+    assert_texts(rt, found, escaped(alloc, front));
+    let found = pushed_twice(alloc, color);
+    assert_texts(rt, found, escaped_twice(alloc, front));
+    let found = painted_text(alloc, "é", Some(color));
+    assert_texts(rt, found, escaped(alloc, behind))
 }
 
 #[test]
 fn every_color_is_painted(rt: HostRuntime) {
     for (color, front, behind) in COLORS {
-        assert_color(&rt, *color, *front, *behind)
+        assert_color(&rt, rt.alloc(), *color, *front, *behind)
     }
 }
 
@@ -215,17 +223,20 @@ fn values_of_any_kind_are_painted(rt: HostRuntime) {
     )
 }
 
+/// The numbers of the first colours of the usual generator.
+const FIRST: &[u8] = &[201, 155, 187];
+
 #[test]
 fn colors_of_a_generator(rt: HostRuntime) {
     let mut usual = ColorGenerator::new();
     let mut default = ColorGenerator::default();
-    for number in [201, 155, 187] {
-        assert_same(&rt, &usual.next(), &Color::Fixed(number));
-        assert_same(&rt, &default.next(), &Color::Fixed(number));
+    for number in FIRST {
+        assert_is(&rt, usual.next(), Color::Fixed(*number));
+        assert_is(&rt, default.next(), Color::Fixed(*number));
     }
-    assert_same(&rt, &usual_after_one().next(), &Color::Fixed(155));
-    assert_same(&rt, &usual_after_two().next(), &Color::Fixed(187));
-    assert_same(&rt, &usual_after_three().next(), &default.next());
+    assert_is(&rt, usual_after_one().next(), Color::Fixed(155));
+    assert_is(&rt, usual_after_two().next(), Color::Fixed(187));
+    assert_is(&rt, usual_after_three().next(), default.next());
     numbers_rise_evenly();
 }
 
@@ -233,14 +244,13 @@ fn colors_of_a_generator(rt: HostRuntime) {
 fn full_brightness_is_always_white(rt: HostRuntime) {
     let mut bright = ColorGenerator::from_state([0, 0, 0], 2000);
     for turn in 0..20 {
-        let color = bright.next();
-        assert!(rt; color == Color::Fixed(231), "{color:?} at turn {turn}");
+        assert_is(&rt, (turn, bright.next()), (turn, Color::Fixed(231)))
     }
 }
 
 #[test]
 fn numbers_of_a_generator_begin_again_at_65536(rt: HostRuntime) {
     let mut greatest = ColorGenerator::from_state([65535, 65535, 65535], 0);
-    assert_same(&rt, &greatest.next(), &Color::Fixed(109));
-    assert_same(&rt, &greatest_after_one().next(), &greatest.next())
+    assert_is(&rt, greatest.next(), Color::Fixed(109));
+    assert_is(&rt, greatest_after_one().next(), greatest.next())
 }

@@ -1,6 +1,6 @@
 //! What a report and its labels say of themselves.
 
-use crate::comparing::{assert_same, assert_text};
+use crate::comparing::{assert_is, assert_same, assert_text};
 use ariadne::{Color, Config, IndexType, Label, LabelAttach, Report, ReportBuilder, ReportKind};
 use std::alloc::{AllocError, Global};
 use std::process::Abort;
@@ -24,24 +24,34 @@ fn headed(alloc: Global) -> Result<ReportBuilder<'static>, AllocError> {
         .with_message("odd")
 }
 
+/// Adds what stands below its head.
+fn add_rest(alloc: Global, builder: &mut ReportBuilder<'_>) -> Result<(), AllocError> {
+    builder.add_label(full(alloc)?)?;
+    builder.add_note("see there")?;
+    builder.add_help("turn it")
+}
+
 /// A report with all that a report may have.
 fn report(alloc: Global) -> Result<Report<'static>, AllocError> {
     let mut builder = headed(alloc)?;
-    builder.add_label(full(alloc)?)?;
-    builder.add_note("see there")?;
-    builder.add_help("turn it")?;
+    add_rest(alloc, &mut builder)?;
     Ok(builder.finish())
+}
+
+/// Asserts what the label with all that a label may have says of itself.
+fn assert_full(rt: &impl Abort, label: &Label) {
+    assert_same(rt, label.span(), &(1..3));
+    assert_is(rt, label.message(), Some("here"));
+    assert_is(rt, label.color(), Some(Color::Blue));
+    assert_is(rt, (label.order(), label.priority()), (-4, 5))
 }
 
 #[test]
 fn a_label_tells_what_it_was_made_of(rt: HostRuntime) {
     let label = full(rt.alloc()).expect(&rt, "memory");
-    assert_same(&rt, label.span(), &(1..3));
-    assert_same(&rt, &label.message(), &Some("here"));
-    assert_same(&rt, &label.color(), &Some(Color::Blue));
-    assert_same(&rt, &(label.order(), label.priority()), &(-4, 5));
+    assert_full(&rt, &label);
     let new = Label::new(1..3);
-    assert_same(&rt, &(new.order(), new.priority()), &(0, 0))
+    assert_is(&rt, (new.order(), new.priority()), (0, 0))
 }
 
 /// Asserts that a list has one text, and this one.
@@ -51,11 +61,17 @@ fn assert_only(rt: &impl Abort, texts: &[String], wanted: &str) {
 
 /// Asserts what the report says of itself.
 fn assert_head(rt: &impl Abort, report: &Report<'_>) {
-    assert_same(rt, &report.kind(), &ReportKind::Custom("Hint", Color::Red));
-    assert_same(rt, &report.code(), &Some("07"));
-    assert_same(rt, &report.message(), &Some("odd"));
+    assert_is(rt, report.kind(), ReportKind::Custom("Hint", Color::Red));
+    assert_is(rt, report.code(), Some("07"));
+    assert_is(rt, report.message(), Some("odd"));
     assert_same(rt, report.span(), &(2..2));
-    assert_same(rt, &report.config().index_type(), &IndexType::Byte)
+    assert_is(rt, report.config().index_type(), IndexType::Byte)
+}
+
+/// Asserts that a list has one label, and the one with all that a label may have.
+fn assert_only_label(rt: &(impl Abort + AllocGlobal), labels: &[Label]) {
+    let label = full(rt.alloc()).expect(rt, "memory");
+    assert_is(rt, labels.len() == 1 && labels[0] == label, true)
 }
 
 #[test]
@@ -64,8 +80,7 @@ fn a_report_tells_what_it_was_made_of(rt: HostRuntime) {
     assert_head(&rt, &report);
     assert_only(&rt, report.notes(), "see there");
     assert_only(&rt, report.helps(), "turn it");
-    let label = full(rt.alloc()).expect(&rt, "memory");
-    assert!(rt; report.labels().len() == 1 && report.labels()[0] == label)
+    assert_only_label(&rt, report.labels())
 }
 
 /// Kinds, each with its name and its colour.
@@ -80,8 +95,7 @@ const KINDS: &[(ReportKind<'static>, &str, Color)] = &[
 #[test]
 fn a_kind_tells_its_name_and_its_color(rt: HostRuntime) {
     for (kind, name, color) in KINDS {
-        assert_same(&rt, &kind.name(), name);
-        assert_same(&rt, &kind.color(), color);
+        assert_is(&rt, (kind.name(), kind.color()), (*name, *color))
     }
 }
 
@@ -89,21 +103,22 @@ fn a_kind_tells_its_name_and_its_color(rt: HostRuntime) {
 fn kinds_are_shown_by_their_names(rt: HostRuntime) {
     for (kind, name, _) in KINDS {
         assert_text(&rt, kind.to_string(rt.alloc()), *name);
-        assert!(rt; *kind == *kind);
+        assert_same(&rt, kind, kind);
     }
     let hint = ReportKind::Custom("Hint", Color::Blue);
-    assert!(rt; hint != ReportKind::Custom("Hint", Color::Red));
-    assert!(rt; ReportKind::Custom("Error", Color::Red) != ReportKind::Error)
+    let is_red = hint == ReportKind::Custom("Hint", Color::Red);
+    let is_error = ReportKind::Custom("Error", Color::Red) == ReportKind::Error;
+    assert_is(&rt, (is_red, is_error), (false, false))
 }
 
 #[test]
 fn a_configuration_tells_what_was_set(rt: HostRuntime) {
     let config = Config::new();
-    assert_same(&rt, &config.label_attach(), &LabelAttach::Middle);
-    assert!(rt; config.is_colored());
+    let told = (config.label_attach(), config.is_colored());
+    assert_is(&rt, told, (LabelAttach::Middle, true));
     let config = config.with_label_attach(LabelAttach::End).with_color(false);
-    assert_same(&rt, &config.label_attach(), &LabelAttach::End);
-    assert!(rt; !config.is_colored())
+    let told = (config.label_attach(), config.is_colored());
+    assert_is(&rt, told, (LabelAttach::End, false))
 }
 
 /// The report as `Debug` shows it.
@@ -119,6 +134,6 @@ const SAID: &[&str] = &["Hint", "07", "odd", "here", "see there", "turn it"];
 fn a_debug_text_has_what_the_report_says(rt: HostRuntime) {
     let text = debug_text(rt.alloc()).expect(&rt, "memory");
     for said in SAID {
-        assert!(rt; text.contains(*said), "{said}");
+        assert_is(&rt, (*said, text.contains(*said)), (*said, true))
     }
 }

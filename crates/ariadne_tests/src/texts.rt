@@ -1,6 +1,6 @@
 //! The lines of texts, look-ups in them, and spans.
 
-use crate::comparing::assert_same;
+use crate::comparing::{assert_is, assert_same};
 use ariadne::{Line, Place, Source, SourceLines, SourceText, Span};
 use std::hash::{DefaultHasher, Hash, Hasher};
 use std::ops::Range;
@@ -28,12 +28,13 @@ fn assert_line<I: SourceText>(
 ) -> usize {
     let line = line.expect(rt, "a line");
     let len = want.chars().count();
-    assert_same(rt, &told_in(source, line), &(offset, len, Some(want)));
+    assert_is(rt, told_in(source, line), (offset, len, Some(want)));
     offset.saturating_add(len)
 }
 
-/// Asserts that the lines of a source are these, each behind those before it, and no other.
-fn assert_lines_of<I: SourceText>(rt: &impl Abort, source: &Source<I>, lines: &[&str]) {
+/// Asserts that the first lines of a source are these, each behind those before it. Returns the offset
+/// behind them.
+fn assert_first_lines<I: SourceText>(rt: &impl Abort, source: &Source<I>, lines: &[&str]) -> usize {
     let mut offset = 0usize;
     let mut found = source.lines();
     for (number, want) in lines.iter().enumerate() {
@@ -41,9 +42,18 @@ fn assert_lines_of<I: SourceText>(rt: &impl Abort, source: &Source<I>, lines: &[
         assert_same(rt, &source.line(number), &line);
         offset = assert_line(rt, source, line, offset, *want);
     }
-    let told = (source.lines().len(), source.len());
-    assert_same(rt, &told, &(lines.len(), offset));
-    assert_same(rt, &source.line(lines.len()), &None)
+    offset
+}
+
+/// Asserts that the lines of a source are these, each behind those before it, and no other.
+fn assert_lines_of<I: SourceText>(rt: &impl Abort, source: &Source<I>, lines: &[&str]) {
+    let len = assert_first_lines(rt, source, lines);
+    let past = source.line(lines.len());
+    assert_is(
+        rt,
+        (source.lines().len(), source.len(), past),
+        (lines.len(), len, None),
+    )
 }
 
 /// The text of these lines.
@@ -90,27 +100,39 @@ fn len_of<I: SourceText>(source: &Source<I>, number: usize) -> Option<usize> {
     Some(source.line(number)?.len())
 }
 
+/// A source with a separator behind a long text and a short one, behind a character, and alone.
+fn separated(rt: &(impl Abort + AllocGlobal), fill: &str, separator: &str) -> Source<String> {
+    let lines = [LONG, fill, separator, "é", separator, separator, LONG];
+    source(rt, joined(rt, &lines))
+}
+
+/// The lengths of the lines of this source, by the lengths of the short text and of the separator.
+fn separated_lens(fill: usize, separator: usize) -> [Option<usize>; 4] {
+    [
+        Some(fill.saturating_add(separator).saturating_add(63)),
+        Some(separator.saturating_add(1)),
+        Some(separator),
+        Some(63),
+    ]
+}
+
+/// The lengths of the first four lines.
+fn first_lens(source: &Source<String>) -> [Option<usize>; 4] {
+    [
+        len_of(source, 0),
+        len_of(source, 1),
+        len_of(source, 2),
+        len_of(source, 3),
+    ]
+}
+
 /// Asserts that a separator ends its line behind a long text and a short one, and stands in a line
 /// of its own.
 fn assert_ended(rt: &(impl Abort + AllocGlobal), fill: &str, separator: &str) {
-    let lines = [LONG, fill, separator, "é", separator, separator, LONG];
-    let source = source(rt, joined(rt, &lines));
-    let lens = (
-        len_of(&source, 0),
-        len_of(&source, 1),
-        len_of(&source, 2),
-        len_of(&source, 3),
-    );
-    let width = separator.chars().count();
-    let filled = fill.chars().count().saturating_add(63);
-    let want = (
-        Some(filled.saturating_add(width)),
-        Some(width.saturating_add(1)),
-        Some(width),
-        Some(63),
-    );
-    assert_same(rt, &(separator, fill, lens), &(separator, fill, want));
-    assert_same(rt, &source.lines().len(), &4)
+    let source = separated(rt, fill, separator);
+    let found = (separator, fill, first_lens(&source), source.lines().len());
+    let want = separated_lens(fill.chars().count(), separator.chars().count());
+    assert_is(rt, found, (separator, fill, want, 4))
 }
 
 /// What ends a line.
@@ -138,26 +160,24 @@ fn told_of_line(line: Line) -> (usize, usize, bool, Range<usize>) {
 /// Asserts how many lines are still to come.
 fn assert_rest(rt: &impl Abort, lines: &SourceLines<'_>, count: usize) {
     let told = (lines.len(), lines.size_hint());
-    assert_same(rt, &told, &(count, (count, Some(count))))
+    assert_is(rt, told, (count, (count, Some(count))))
+}
+
+/// Asserts that these are two lines, and where and how long each is.
+fn assert_two_lines(rt: &impl Abort, lines: &mut SourceLines<'_>) {
+    assert_rest(rt, lines, 2);
+    let first = lines.next().map(told_of_line);
+    assert_is(rt, first, Some((0, 4, false, 0..4)));
+    let second = lines.next().map(told_of_line);
+    assert_is(rt, second, Some((4, 1, false, 4..5)));
+    assert_rest(rt, lines, 0)
 }
 
 #[test]
 fn a_line_tells_where_it_is_and_how_long(rt: HostRuntime) {
     let source = source(&rt, "\u{e9}b\r\nc");
-    assert_same(&rt, &(source.len(), source.is_empty()), &(5, false));
-    let mut lines = source.lines();
-    assert_rest(&rt, &lines, 2);
-    assert_same(
-        &rt,
-        &lines.next().map(told_of_line),
-        &Some((0, 4, false, 0..4)),
-    );
-    assert_same(
-        &rt,
-        &lines.next().map(told_of_line),
-        &Some((4, 1, false, 4..5)),
-    );
-    assert_rest(&rt, &lines, 0)
+    assert_is(&rt, (source.len(), source.is_empty()), (5, false));
+    assert_two_lines(&rt, &mut source.lines())
 }
 
 /// A place in a source: a line, its number and a column in it.
@@ -179,15 +199,19 @@ const OFFSETS: &[(usize, usize, usize)] = &[
     (15, 3, 11),
 ];
 
+/// Asserts where these offsets lie in a source.
+fn assert_offsets<I: SourceText>(rt: &impl Abort, source: &Source<I>) {
+    for &(offset, number, column) in OFFSETS {
+        let want = spot_in(source, number, column);
+        assert_is(rt, source.get_offset_line(offset), want);
+    }
+}
+
 #[test]
 fn an_offset_lies_in_the_last_line_that_begins_before_it(rt: HostRuntime) {
     let source = source(&rt, "\n\r\n\nEmpty Lines");
-    assert_same(&rt, &source.len(), &15);
-    for (offset, number, column) in OFFSETS {
-        let want = spot_in(&source, *number, *column);
-        assert_same(&rt, &source.get_offset_line(*offset), &want);
-    }
-    assert_same(&rt, &source.get_offset_line(16), &None)
+    assert_offsets(&rt, &source);
+    assert_is(&rt, (source.len(), source.get_offset_line(16)), (15, None))
 }
 
 /// The starts and the ends of spans, each with the numbers of its lines, the last exclusive.
@@ -210,25 +234,40 @@ fn a_span_lies_in_the_lines_of_its_characters(rt: HostRuntime) {
 /// Offsets in bytes, each with the number of its line and the column in it.
 const BYTES: &[(usize, usize, usize)] = &[(0, 0, 0), (1, 0, 1), (2, 0, 2), (3, 1, 0), (4, 1, 1)];
 
+/// Asserts where these bytes lie in a source.
+fn assert_bytes<I: SourceText>(rt: &impl Abort, source: &Source<I>) {
+    for &(offset, number, column) in BYTES {
+        let want = spot_in(source, number, column);
+        assert_is(rt, source.get_byte_line(offset), want);
+    }
+}
+
+/// Asserts that a source of `é` and of `b` below it counts both as one character.
+fn assert_chars<I: SourceText>(rt: &impl Abort, source: &Source<I>) {
+    let are_same = source.chars().eq("\u{e9}\nb".chars());
+    assert_is(rt, (source.len(), are_same), (3, true));
+    let (last, past) = (source.get_offset_line(2), source.get_offset_line(4));
+    assert_is(rt, (last, past), (spot_in(source, 1, 0), None))
+}
+
 #[test]
 fn bytes_are_not_taken_for_characters(rt: HostRuntime) {
     let source = source(&rt, "\u{e9}\nb");
-    assert_same(&rt, &source.len(), &3);
-    assert!(rt; source.chars().eq("\u{e9}\nb".chars()));
-    for (offset, number, column) in BYTES {
-        let want = spot_in(&source, *number, *column);
-        assert_same(&rt, &source.get_byte_line(*offset), &want);
-    }
-    let past = (source.get_byte_line(5), source.get_offset_line(4));
-    assert_same(&rt, &past, &(None, None));
-    assert_same(&rt, &source.get_offset_line(2), &spot_in(&source, 1, 0))
+    assert_chars(&rt, &source);
+    assert_bytes(&rt, &source);
+    assert_is(&rt, source.get_byte_line(5), None)
+}
+
+/// Asserts that a source of a text has no text for a line of another source.
+fn assert_no_text(rt: &(impl Abort + AllocGlobal), text: &str, line: Line) {
+    assert_is(rt, source(rt, text).get_line_text(line), None)
 }
 
 #[test]
 fn a_line_has_no_text_where_its_bytes_are_none_of_the_source(rt: HostRuntime) {
     let line = source(&rt, "abcde").line(0).expect(&rt, "a line");
-    assert_same(&rt, &source(&rt, "ab").get_line_text(line), &None);
-    assert_same(&rt, &source(&rt, "abcd\u{e9}").get_line_text(line), &None)
+    assert_no_text(&rt, "ab", line);
+    assert_no_text(&rt, "abcd\u{e9}", line)
 }
 
 /// The hash of a source.
@@ -238,37 +277,39 @@ fn hash_of<I: SourceText>(source: &Source<I>) -> u64 {
     state.finish()
 }
 
-/// A source of two lines whose numbers are moved.
-fn moved(rt: &(impl Abort + AllocGlobal)) -> Source<String> {
-    let source = source(
-        rt,
-        String::from_str(rt.alloc(), "a\nb").expect(rt, "memory"),
-    );
-    assert!(rt; source.lines().len() <= usize::MAX - 98);
-    source.with_display_line_offset(98)
+/// The same source with the numbers of its lines moved by so many.
+fn renumbered(rt: &impl Abort, source: Source<String>, offset: usize) -> Source<String> {
+    assert!(rt; source.lines().len() <= usize::MAX - offset);
+    source.with_display_line_offset(offset)
+}
+
+/// Asserts that a copy of a source has its text and its offset, and equals it.
+fn assert_copied(rt: &impl Abort, copy: &Source<String>, source: &Source<String>) {
+    let told = (copy.text(), copy.display_line_offset());
+    assert_is(rt, told, ("a\nb", 98));
+    assert_same(rt, copy, source);
+    assert_is(rt, hash_of(copy), hash_of(source))
 }
 
 #[test]
 fn a_copy_equals_its_source_in_text_and_offset(rt: HostRuntime) {
-    let source = moved(&rt);
+    let source = renumbered(&rt, source(&rt, joined(&rt, &["a\nb"])), 98);
     let copy = source.clone().expect(&rt, "memory");
-    assert_same(
-        &rt,
-        &(copy.text(), copy.display_line_offset()),
-        &("a\nb", 98),
-    );
-    assert!(rt; copy == source);
-    assert_same(&rt, &hash_of(&copy), &hash_of(&source));
-    assert!(rt; copy.lines().len() <= usize::MAX);
-    assert!(rt; copy.with_display_line_offset(0) != source)
+    assert_copied(&rt, &copy, &source);
+    assert_is(&rt, renumbered(&rt, copy, 0) == source, false)
+}
+
+/// Whether a copy of a source equals it.
+fn is_copied(rt: &impl Abort, source: &Source<&str>) -> bool {
+    source.clone().expect(rt, "memory") == *source
 }
 
 #[test]
 fn sources_of_other_texts_are_others(rt: HostRuntime) {
     let source = source(&rt, "a\nb");
     let other = Source::from(source.memory(), "a\nc").expect(&rt, "memory");
-    assert!(rt; other != source);
-    assert!(rt; source.clone().expect(&rt, "memory") == source)
+    let are_same = (other == source, is_copied(&rt, &source));
+    assert_is(&rt, are_same, (false, true))
 }
 
 /// A text of four lines.
@@ -285,7 +326,7 @@ fn a_text_may_be_shared(rt: HostRuntime) {
     let source = source(&rt, text);
     assert_lines_of(&rt, &source, FOUR);
     let copy = source.clone().expect(&rt, "memory");
-    assert_same(&rt, &copy.text(), &source.text())
+    assert_is(&rt, copy.text(), source.text())
 }
 
 #[test]
@@ -311,8 +352,8 @@ const HALF_OPEN: &[(usize, usize, usize)] = &[
 fn half_open_ranges_end_before_their_end(rt: HostRuntime) {
     for (start, end, len) in HALF_OPEN {
         let want = (*start, *end, *len, *len == 0);
-        let told = (told_of(&(*start..*end)), told_of(&("a", *start..*end)));
-        assert_same(&rt, &told, &(want, want));
+        assert_is(&rt, told_of(&(*start..*end)), want);
+        assert_is(&rt, told_of(&("a", *start..*end)), want)
     }
 }
 
@@ -328,45 +369,40 @@ const INCLUSIVE: &[(usize, usize, usize, usize)] = &[
 fn inclusive_ranges_end_one_past_their_last_offset(rt: HostRuntime) {
     for (start, last, end, len) in INCLUSIVE {
         let want = (*start, *end, *len, *len == 0);
-        let told = (told_of(&(*start..=*last)), told_of(&(7u8, *start..=*last)));
-        assert_same(&rt, &told, &(want, want));
+        assert_is(&rt, told_of(&(*start..=*last)), want);
+        assert_is(&rt, told_of(&(7u8, *start..=*last)), want)
     }
 }
 
 #[test]
 fn a_place_never_runs_backwards(rt: HostRuntime) {
-    assert!(rt; Place::new(3, 2).is_none());
+    assert_is(&rt, Place::new(3, 2), None);
     let place = Place::new(2, 5).expect(&rt, "a place");
-    assert_same(&rt, &told_of(&place), &(2, 5, 3, false));
-    assert_same(&rt, &told_of(&("a", Place::at(3))), &(3, 3, 0, true));
-    assert_same(
-        &rt,
-        &(Place::at(5).to(Place::at(2)), place.to(Place::at(3))),
-        &(place, place),
-    )
+    assert_is(&rt, told_of(&place), (2, 5, 3, false));
+    assert_is(&rt, told_of(&("a", Place::at(3))), (3, 3, 0, true));
+    assert_is(&rt, Place::at(5).to(Place::at(2)), place);
+    assert_is(&rt, place.to(Place::at(3)), place)
 }
 
 /// Offsets, each with whether a span from 2 on that ends before 5 holds it.
 const HELD: &[(usize, bool)] = &[(1, false), (2, true), (4, true), (5, false)];
 
+/// Whether spans of each kind from 2 on that end before 5 hold an offset, and one that is reversed.
+fn are_held(offset: usize) -> (bool, bool, bool) {
+    (
+        Span::contains(&(2..5), offset),
+        ("a", 2..=4).contains(offset),
+        Span::contains(&(5..2), offset),
+    )
+}
+
 #[test]
 fn a_span_has_a_source_and_holds_its_start_and_not_its_end(rt: HostRuntime) {
-    assert_same(
-        &rt,
-        &(*("a", 2..5).source(), *(7u8, 2..=4).source()),
-        &("a", 7),
-    );
-    assert_same(&rt, &*Span::source(&(2..5)), &());
-    for (offset, is_held) in HELD {
-        let held = (
-            Span::contains(&(2..5), *offset),
-            ("a", 2..=4).contains(*offset),
-            Span::contains(&(5..2), *offset),
-        );
-        assert_same(
-            &rt,
-            &(*offset, held),
-            &(*offset, (*is_held, *is_held, false)),
-        );
+    assert_is(&rt, *("a", 2..5).source(), "a");
+    assert_is(&rt, *(7u8, 2..=4).source(), 7);
+    assert_is(&rt, *Span::source(&(2..5)), ());
+    for &(offset, is_held) in HELD {
+        let want = (offset, (is_held, is_held, false));
+        assert_is(&rt, (offset, are_held(offset)), want)
     }
 }
