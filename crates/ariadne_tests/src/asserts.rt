@@ -41,6 +41,15 @@ impl From<AllocError> for Mismatch {
     }
 }
 
+impl From<WriteError> for Mismatch {
+    fn from(error: WriteError) -> Mismatch {
+        match error {
+            WriteError::Memory(_) => Mismatch::Memory,
+            WriteError::Io { .. } => Mismatch::NoPicture,
+        }
+    }
+}
+
 /// The rows of two labels on a line, blanks at their ends kept.
 pub(crate) const APPLES: [&str; 9] = [
     "Error: can't compare apples with oranges",
@@ -90,10 +99,20 @@ pub(crate) fn labelled<'a>(
     labels: &[(usize, usize, &str)],
 ) -> Result<Report<'a>, AllocError> {
     let mut builder = builder;
-    for label in labels {
-        builder.add_label(label_of(rt.alloc(), *label)?)?;
-    }
+    add_labels(rt.alloc(), &mut builder, labels)?;
     Ok(builder.finish())
+}
+
+/// Adds such labels.
+fn add_labels(
+    alloc: Global,
+    builder: &mut ReportBuilder<'_>,
+    labels: &[(usize, usize, &str)],
+) -> Result<(), AllocError> {
+    for label in labels {
+        builder.add_label(label_of(alloc, *label)?)?;
+    }
+    Ok(())
 }
 
 /// Such a label.
@@ -111,10 +130,20 @@ pub(crate) fn labelled_in<'a>(
     labels: &[(&'static str, usize, usize, &str)],
 ) -> Result<Report<'a, Piece>, AllocError> {
     let mut builder = builder;
-    for label in labels {
-        builder.add_label(label_in(rt.alloc(), *label)?)?;
-    }
+    add_labels_in(rt.alloc(), &mut builder, labels)?;
     Ok(builder.finish())
+}
+
+/// Adds such labels.
+fn add_labels_in(
+    alloc: Global,
+    builder: &mut ReportBuilder<'_, Piece>,
+    labels: &[(&'static str, usize, usize, &str)],
+) -> Result<(), AllocError> {
+    for label in labels {
+        builder.add_label(label_in(alloc, *label)?)?;
+    }
+    Ok(())
 }
 
 /// Such a label.
@@ -135,11 +164,8 @@ pub(crate) fn written<S: Span, C: Cache<S::SourceId>>(
     ensures { C.can_fetch cache.new }
 {
     let mut out = Vec::new(rt.alloc());
-    match report.write(cache, &mut out) {
-        Ok(left_out) => Ok((text_of(out)?, left_out)),
-        Err(WriteError::Memory(_)) => Err(Mismatch::Memory),
-        Err(WriteError::Io { .. }) => Err(Mismatch::NoPicture),
-    }
+    let left_out = report.write(cache, &mut out)?;
+    Ok((text_of(out)?, left_out))
 }
 
 /// The text of a picture.
@@ -160,16 +186,6 @@ pub(crate) fn joined(alloc: Global, rows: &[&str]) -> Result<String, AllocError>
     Ok(text)
 }
 
-/// A picture without the blanks at the ends of its rows.
-fn trimmed(alloc: Global, picture: &str) -> Result<String, AllocError> {
-    let mut text = String::new(alloc);
-    for row in picture.split_terminator('\n') {
-        text.push_str(row.trim_end_matches(' '))?;
-        text.push('\n')?;
-    }
-    Ok(text)
-}
-
 /// Asserts that a picture has these rows, and each of them whole, or but for the blanks at their
 /// ends.
 pub(crate) fn assert_shown(
@@ -178,24 +194,34 @@ pub(crate) fn assert_shown(
     rows: &[&str],
     is_whole: bool,
 ) -> Result<(), Mismatch> {
-    if has_rows(rt.alloc(), picture, rows, is_whole)? {
+    if has_rows(picture, rows, is_whole) {
         return Ok(());
     }
     Err(Mismatch::Picture(picture.to_string(rt.alloc())?))
 }
 
 /// Whether a picture has these rows, and each of them whole, or but for the blanks at their ends.
-fn has_rows(
-    alloc: Global,
-    picture: &str,
-    rows: &[&str],
-    is_whole: bool,
-) -> Result<bool, AllocError> {
-    let expected = joined(alloc, rows)?;
-    if is_whole {
-        return Ok(picture == expected.as_str());
+fn has_rows(picture: &str, rows: &[&str], is_whole: bool) -> bool {
+    let mut rest = picture;
+    for row in rows {
+        match behind_row(rest, *row, is_whole) {
+            Some(behind) => rest = behind,
+            None => return false,
+        }
     }
-    Ok(picture.ends_with('\n') && trimmed(alloc, picture)? == expected)
+    rest.is_empty()
+}
+
+/// What stands behind a row that a picture begins with, and behind the blanks at its end where it is not
+/// whole.
+fn behind_row<'p>(picture: &'p str, row: &str, is_whole: bool) -> Option<&'p str> {
+    let behind = picture.strip_prefix(row)?;
+    let behind = if is_whole {
+        behind
+    } else {
+        behind.trim_start_matches(' ')
+    };
+    behind.strip_prefix('\n')
 }
 
 /// Asserts that a picture has these rows, but for the blanks at their ends.
@@ -244,12 +270,22 @@ pub(crate) fn assert_unknown(
         return Err(Mismatch::Count(left_out.len()));
     }
     for (left, want) in left_out.iter().zip(wanted) {
-        let text = said_of(rt.alloc(), &left.reason)?;
-        if text.as_str() != *want {
-            return Err(Mismatch::Said(text));
-        }
+        assert_said(rt.alloc(), &left.reason, *want)?;
     }
     Ok(())
+}
+
+/// Asserts what a cache said of a source that can't be had.
+fn assert_said(
+    alloc: Global,
+    reason: &Reason<UnknownSource>,
+    wanted: &str,
+) -> Result<(), Mismatch> {
+    let text = said_of(alloc, reason)?;
+    if text.as_str() == wanted {
+        return Ok(());
+    }
+    Err(Mismatch::Said(text))
 }
 
 /// What a cache said of a source that can't be had.
@@ -268,8 +304,38 @@ pub(crate) fn assert_bytes(
     text: &str,
     rows: &[&str],
 ) -> Result<(), Mismatch> {
+    assert_drawn(rt, &made?, text, rows, true)
+}
+
+/// Asserts that over a text a report leaves no label out, and that its picture has these rows, and
+/// each of them whole, or but for the blanks at their ends.
+fn assert_drawn(
+    rt: &impl AllocGlobal,
+    report: &Report<'_>,
+    text: &str,
+    rows: &[&str],
+    is_whole: bool,
+) -> Result<(), Mismatch> {
     let mut source = source_of(rt.alloc(), text)?;
-    assert_bytes_over(rt, &made?, &mut source, &[], rows)
+    assert_drawn_over(rt, report, &mut source, &[], rows, is_whole)
+}
+
+/// Asserts that over a cache a report leaves out exactly these labels, and that its picture has these
+/// rows, and each of them whole, or but for the blanks at their ends.
+fn assert_drawn_over<S: Span, C: Cache<S::SourceId>>(
+    rt: &impl AllocGlobal,
+    report: &Report<'_, S>,
+    cache: &mut C,
+    wanted: &[(usize, Why)],
+    rows: &[&str],
+    is_whole: bool,
+) -> Result<(), Mismatch>
+    requires { C.can_fetch cache.old }
+    ensures { C.can_fetch cache.new }
+{
+    let (picture, left_out) = written(rt, report, cache)?;
+    assert_left_out(&left_out, wanted)?;
+    assert_shown(rt, picture.as_str(), rows, is_whole)
 }
 
 /// Asserts that over a cache a report leaves out exactly these labels, and that its picture has these
@@ -283,9 +349,7 @@ pub(crate) fn assert_bytes_over<S: Span, C: Cache<S::SourceId>>(
 ) -> Result<(), Mismatch>
     requires { C.can_fetch cache.old }
 {
-    let (picture, left_out) = written(rt, report, cache)?;
-    assert_left_out(&left_out, wanted)?;
-    assert_shown(rt, picture.as_str(), rows, true)
+    assert_drawn_over(rt, report, cache, wanted, rows, true)
 }
 
 /// Asserts that over a text a report leaves no label out, and that its picture has these rows, but
@@ -296,8 +360,7 @@ pub(crate) fn assert_picture(
     text: &str,
     rows: &[&str],
 ) -> Result<(), Mismatch> {
-    let mut source = source_of(rt.alloc(), text)?;
-    assert_picture_over(rt, report, &mut source, &[], rows)
+    assert_drawn(rt, report, text, rows, false)
 }
 
 /// Asserts that over a cache a report leaves out exactly these labels, and that its picture has
@@ -312,7 +375,5 @@ pub(crate) fn assert_picture_over<S: Span, C: Cache<S::SourceId>>(
     requires { C.can_fetch cache.old }
     ensures { C.can_fetch cache.new }
 {
-    let (picture, left_out) = written(rt, report, cache)?;
-    assert_left_out(&left_out, wanted)?;
-    assert_trimmed(rt, picture.as_str(), rows)
+    assert_drawn_over(rt, report, cache, wanted, rows, false)
 }
