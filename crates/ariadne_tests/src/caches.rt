@@ -3,11 +3,12 @@
 ghost use Rattle.std.specs.Prelude.{◌≤◌};
 
 use crate::asserts::{
-    Piece, Why, assert_left_out, assert_picture_over, assert_trimmed, assert_unknown, labelled,
+    Piece, Why, assert_left_out, assert_picture_over, assert_shown, assert_unknown, labelled,
     labelled_in, plain_error, plain_error_at, written,
 };
-use crate::comparing::assert_same;
+use crate::comparing::assert_is;
 use ariadne::{Cache, Label, Report, Source, SourceMap, Span, UnknownSource, sources};
+use std::collections::HashMap;
 use std::ops::Range;
 use std::process::Abort;
 use std::rc::RcStr;
@@ -85,9 +86,9 @@ pub(crate) fn one_label<S: Span + Drop>(
 }
 
 /// Asserts that over a cache a report leaves out exactly these labels, and has these rows.
-pub(crate) fn assert_over<S: Span, C: Cache<S::SourceId>>(
+pub(crate) fn assert_over<S: Span + Drop, C: Cache<S::SourceId>>(
     rt: &(impl Abort + AllocGlobal),
-    report: &Report<'_, S>,
+    report: Report<'_, S>,
     cache: &mut C,
     left_out: &[(usize, Why)],
     rows: &[&str],
@@ -95,7 +96,7 @@ pub(crate) fn assert_over<S: Span, C: Cache<S::SourceId>>(
     requires { C.can_fetch cache.old }
     ensures { C.can_fetch cache.new }
 {
-    assert_picture_over(rt, report, cache, left_out, rows).expect(rt, "the picture")
+    assert_picture_over(rt, &report, cache, left_out, rows).expect(rt, "the picture")
 }
 
 /// Asserts that over a cache the two labels are drawn.
@@ -103,7 +104,7 @@ pub(crate) fn assert_two<C: Cache<&'static str>>(rt: &(impl Abort + AllocGlobal)
     requires { C.can_fetch cache.old }
     ensures { C.can_fetch cache.new }
 {
-    assert_over(rt, &two_labels(rt), cache, &[], TWO)
+    assert_over(rt, two_labels(rt), cache, &[], TWO)
 }
 
 /// Asserts that over a cache of one source without a name two labels are drawn.
@@ -111,12 +112,24 @@ fn assert_unnamed<C: Cache<()>>(rt: &(impl Abort + AllocGlobal), cache: &mut C)
     requires { C.can_fetch cache.old }
     ensures { C.can_fetch cache.new }
 {
-    assert_over(rt, &two_labels_unnamed(rt), cache, &[], TWO_UNNAMED)
+    assert_over(rt, two_labels_unnamed(rt), cache, &[], TWO_UNNAMED)
 }
 
 /// The source `ab`.
 pub(crate) fn source(rt: &(impl Abort + AllocGlobal)) -> Source<&'static str> {
     Source::from(rt.alloc(), "ab").expect(rt, "memory")
+}
+
+/// Sources that are given to a cache: one of a text.
+pub(crate) fn given(
+    rt: &(impl Abort + AllocGlobal),
+    id: &'static str,
+    text: &'static str,
+) -> HashMap<&'static str, Source<&'static str>> {
+    let mut given = HashMap::new(rt.alloc());
+    let source = Source::from(rt.alloc(), text).expect(rt, "memory");
+    assert_is(rt, given.insert(id, source).is_ok(), true);
+    given
 }
 
 /// A map of one source.
@@ -159,7 +172,7 @@ const FIRST: &[(usize, Why)] = &[(0, Why::Unfetched)];
 fn assert_second<C: Cache<&'static str>>(rt: &(impl Abort + AllocGlobal), cache: &mut C)
     requires { C.can_fetch cache.old }
 {
-    assert_over(rt, &report_at(rt, "x", LOST), cache, FIRST, SECOND)
+    assert_over(rt, report_at(rt, "x", LOST), cache, FIRST, SECOND)
 }
 
 #[test]
@@ -217,24 +230,29 @@ fn report_by_string(rt: &(impl Abort + AllocGlobal)) -> Report<'static, (String,
 #[test]
 fn ids_may_be_strings(rt: HostRuntime) {
     let report = report_by_string(&rt);
-    assert_over(&rt, &report, &mut map_of_string(&rt), &[], WHOLE)
+    assert_over(&rt, report, &mut map_of_string(&rt), &[], WHOLE)
 }
 
 /// The picture of a report over a cache. One label is left out since its source is missing, and this is
 /// said of it.
 fn picture_without<C: Cache<&'static str, Error = UnknownSource>>(
     rt: &(impl Abort + AllocGlobal),
-    report: &Report<'_, Piece>,
+    report: Report<'_, Piece>,
     cache: &mut C,
     label: usize,
     said: &str,
 ) -> String
     requires { C.can_fetch cache.old }
 {
-    let (picture, left_out) = written(rt, report, cache).expect(rt, "a picture");
+    let (picture, left_out) = written(rt, &report, cache).expect(rt, "a picture");
     assert_left_out(&left_out, &[(label, Why::Unfetched)]).expect(rt, "the labels");
     assert_unknown(rt, &left_out, &[said]).expect(rt, "the report");
     picture
+}
+
+/// Asserts that a picture has these rows, and each of them whole, or but for the blanks at their ends.
+fn assert_rows(rt: &(impl Abort + AllocGlobal), picture: String, rows: &[&str], is_whole: bool) {
+    assert_shown(rt, picture.as_str(), rows, is_whole).expect(rt, "the picture")
 }
 
 /// Labels, of which the second is in a source that a map lacks.
@@ -248,8 +266,8 @@ const LACKED: &[(&str, usize, usize, &str)] = &[
 fn a_source_that_a_map_lacks_is_named(rt: HostRuntime) {
     let report = report_at(&rt, "x", LACKED);
     let said = "Failed to fetch source 'zz'";
-    let picture = picture_without(&rt, &report, &mut map(&rt), 1, said);
-    assert_trimmed(&rt, picture.as_str(), TWO).expect(&rt, "the picture")
+    let picture = picture_without(&rt, report, &mut map(&rt), 1, said);
+    assert_rows(&rt, picture, TWO, false)
 }
 
 /// A label in a source that a pair of `a` lacks.
@@ -259,6 +277,6 @@ const OTHER: &[(&str, usize, usize, &str)] = &[("b", 0, 1, "m")];
 fn a_pair_has_no_source_of_another_id(rt: HostRuntime) {
     let report = report_at(&rt, "a", OTHER);
     let said = "Failed to fetch source 'b'";
-    let picture = picture_without(&rt, &report, &mut ("a", source(&rt)), 0, said);
-    assert_same(&rt, &picture.as_str(), &"Error: \n")
+    let picture = picture_without(&rt, report, &mut ("a", source(&rt)), 0, said);
+    assert_rows(&rt, picture, &["Error: "], true)
 }

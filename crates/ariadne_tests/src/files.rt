@@ -2,8 +2,8 @@
 
 use crate::asserts::Why;
 use crate::caches::{assert_over, one_label};
+use crate::folders::{file_in, new_folder, remove};
 use ariadne::{FileCache, Report};
-use ariadne_testing::Folder;
 use std::fs;
 use std::ops::Range;
 use std::process::Abort;
@@ -30,6 +30,17 @@ fn rows_of<'r>(header: &'r str, row: &'r str) -> [&'r str; 7] {
     ]
 }
 
+/// Asserts that over the file at a path the report leaves out these labels, and has these rows.
+fn assert_rows<R: Files + Drop>(
+    rt: &(impl Abort + AllocGlobal),
+    cache: &mut FileCache<R>,
+    path: &str,
+    left_out: &[(usize, Why)],
+    rows: &[&str],
+) {
+    assert_over(rt, report_of_file(rt, path), cache, left_out, rows)
+}
+
 /// Asserts that of the file at a path the second character is drawn, in this row.
 fn assert_file<R: Files + Drop>(
     rt: &(impl Abort + AllocGlobal),
@@ -38,8 +49,7 @@ fn assert_file<R: Files + Drop>(
     row: &str,
 ) {
     let header = format!(in rt.alloc(); "   ,-[ {path}:1:1 ]").expect(rt, "memory");
-    let rows = rows_of(header.as_str(), row);
-    assert_over(rt, &report_of_file(rt, path), cache, &[], &rows)
+    assert_rows(rt, cache, path, &[], &rows_of(header.as_str(), row))
 }
 
 /// Asserts the same over a new cache.
@@ -58,12 +68,10 @@ fn assert_read_once(rt: &(impl Abort + AllocGlobal + Files), path: &str) {
 
 #[test]
 fn a_file_is_drawn_as_it_was_first_read(rt: HostRuntime) {
-    let folder = Folder::new(&rt).expect(&rt, "a folder");
-    let path = folder
-        .file_of(&rt, "line\nfeed.txt", b"ab")
-        .expect(&rt, "a file");
+    let folder = new_folder(&rt);
+    let path = file_in(&rt, &folder, "line\nfeed.txt", b"ab");
     assert_read_once(&rt, path.as_str());
-    folder.remove(&rt).expect(&rt, "no folder")
+    remove(&rt, folder)
 }
 
 /// Asserts that the label in the file at a path is left out.
@@ -72,8 +80,7 @@ fn assert_left_out<R: Files + Drop>(
     cache: &mut FileCache<R>,
     path: &str,
 ) {
-    let lost = [(0, Why::Unfetched)];
-    assert_over(rt, &report_of_file(rt, path), cache, &lost, &["Error:"])
+    assert_rows(rt, cache, path, &[(0, Why::Unfetched)], &["Error:"])
 }
 
 /// Asserts that the file at a path, which is not there yet, is drawn once it is.
@@ -86,8 +93,8 @@ fn assert_asked_again(rt: &(impl Abort + AllocGlobal + Files), path: &str) {
 
 #[test]
 fn a_file_that_is_not_there_is_asked_for_again(rt: HostRuntime) {
-    let folder = Folder::new(&rt).expect(&rt, "a folder");
+    let folder = new_folder(&rt);
     let path = folder.path_of(&rt, "later.txt").expect(&rt, "memory");
     assert_asked_again(&rt, path.as_str());
-    folder.remove(&rt).expect(&rt, "no folder")
+    remove(&rt, folder)
 }

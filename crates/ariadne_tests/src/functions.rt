@@ -1,11 +1,10 @@
 //! Reports over functions that give the texts of their sources: how often each is called.
 
 use crate::asserts::{Why, assert_shown, written};
-use crate::caches::{SECOND, TWO, assert_over, assert_two, report_at, source, two_labels};
-use crate::comparing::{assert_same, assert_same_of};
-use ariadne::{Cache, FnCache, LeftOut, Source};
+use crate::caches::{SECOND, TWO, assert_over, assert_two, given, report_at, two_labels};
+use crate::comparing::{assert_is, assert_is_of, assert_text_of};
+use ariadne::{Cache, FnCache, LeftOut};
 use std::cell::Cell;
-use std::collections::HashMap;
 use std::process::Abort;
 
 /// What comes of writing the two labels once more.
@@ -112,12 +111,11 @@ fn assert_round(
     rt: &(impl Abort + AllocGlobal),
     name: &str,
     round: &Round,
-    picture: &str,
-    left_out: &[LeftOut<u8>],
+    (picture, left_out): (String, Vec<LeftOut<u8>>),
 ) {
-    assert_shown(rt, picture, round.rows, round.is_whole).expect(rt, name);
-    let left_out = format!(in rt.alloc(); "{left_out:?}").expect(rt, "memory");
-    assert_same_of(rt, name, &left_out.as_str(), &round.left_out);
+    assert_shown(rt, picture.as_str(), round.rows, round.is_whole).expect(rt, name);
+    let left_out = format!(in rt.alloc(); "{left_out:?}");
+    assert_text_of(rt, name, left_out, round.left_out)
 }
 
 /// Asserts what comes of a function.
@@ -133,11 +131,11 @@ fn assert_called(rt: &(impl Abort + AllocGlobal), faulty: &'static Faulty) {
     );
     let report = two_labels(rt);
     for round in faulty.rounds {
-        let (picture, left_out) = written(rt, &report, &mut cache).expect(rt, "a picture");
-        assert_round(rt, name, round, picture.as_str(), &left_out);
-        assert_same_of(rt, name, &counted.calls.get(), &round.calls);
+        let answer = written(rt, &report, &mut cache).expect(rt, "a picture");
+        assert_round(rt, name, round, answer);
+        assert_is_of(rt, name, counted.calls.get(), round.calls);
     }
-    assert_same_of(rt, name, &cache.get(&"x").is_some(), &faulty.is_held);
+    assert_is_of(rt, name, cache.get(&"x").is_some(), faulty.is_held);
 }
 
 #[test]
@@ -177,10 +175,9 @@ fn the_sources_of_labels_are_fetched_and_that_of_the_report_is_not(rt: HostRunti
         },
     );
     let report = report_at(&rt, "r", LOST);
-    assert_over(&rt, &report, &mut cache, &[(0, Why::Unfetched)], ONE);
-    assert_same(&rt, &calls.get(), &2);
+    assert_over(&rt, report, &mut cache, &[(0, Why::Unfetched)], ONE);
     let held = (holds(&cache, "x"), holds(&cache, "z"), holds(&cache, "r"));
-    assert_same(&rt, &held, &(true, false, false))
+    assert_is(&rt, (calls.get(), held), (2, (true, false, false)))
 }
 
 /// Fails for every id.
@@ -188,20 +185,11 @@ fn missing(_id: &&'static str) -> Result<&'static str, ()> {
     Err(())
 }
 
-/// A source for `x` that is given to a cache.
-fn given(rt: &(impl Abort + AllocGlobal)) -> HashMap<&'static str, Source<&'static str>> {
-    let mut given = HashMap::new(rt.alloc());
-    assert!(rt; given.insert("x", source(rt)).is_ok());
-    given
-}
-
 #[test]
 fn sources_that_were_given_are_drawn_without_a_call(rt: HostRuntime) {
     let cache: FnCache<&'static str, _, &'static str> = FnCache::new(rt.alloc(), missing);
-    assert_two(
-        &rt,
-        &mut cache.with_sources(given(&rt)).expect(&rt, "memory"),
-    )
+    let given = given(&rt, "x", "ab");
+    assert_two(&rt, &mut cache.with_sources(given).expect(&rt, "memory"))
 }
 
 /// A function that fails once for each id.
@@ -265,7 +253,7 @@ fn each_id_that_failed_is_asked_for_again(rt: HostRuntime) {
     let left_out = [(0, Why::Unfetched), (1, Why::Unfetched)];
     assert_over(
         &rt,
-        &report_at(&rt, "x", FOUR),
+        report_at(&rt, "x", FOUR),
         &mut cache,
         &left_out,
         SECONDS,

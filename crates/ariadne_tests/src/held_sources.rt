@@ -1,13 +1,11 @@
 //! What sources and caches hold, return and show, by their own calls. What is not here is tried where
 //! memory is refused.
 
-use crate::caches::{map_of, owned, source};
-use crate::comparing::{assert_same, assert_same_of, assert_text, assert_text_of};
-use ariadne::{Cache, FetchError, FileCache, FileError, FnCache, Source, SourceTable};
-use ariadne_testing::Folder;
+use crate::caches::{given, map_of, owned, source};
+use crate::comparing::{assert_is, assert_is_of, assert_text, assert_text_of};
+use crate::folders::{file_in, new_folder, remove, write_file};
+use ariadne::{Cache, FetchError, FileCache, FileError, FnCache, SourceTable};
 use std::alloc::AllocError;
-use std::collections::HashMap;
-use std::fs;
 use std::process::Abort;
 use std::rt::Files;
 
@@ -32,7 +30,7 @@ fn assert_fetched<Id: Eq, C: Cache<Id>>(rt: &impl Abort, cache: &mut C, id: &Id,
     requires { C.can_fetch cache.old }
     ensures { C.can_fetch cache.new }
 {
-    assert!(rt; fetches(cache, id, text))
+    assert_is(rt, fetches(cache, id, text), true)
 }
 
 /// The error of its own that a cache returns for an id.
@@ -51,7 +49,7 @@ fn assert_unnamed<C: Cache<()>>(rt: &impl Abort, cache: &mut C, text: &str)
     requires { C.can_fetch cache.old }
 {
     assert_fetched(rt, cache, &(), text);
-    assert!(rt; cache.display(&()).is_none())
+    assert_is(rt, cache.display(&()), None)
 }
 
 #[test]
@@ -63,18 +61,15 @@ fn a_source_is_a_cache_without_names(rt: HostRuntime) {
 
 #[test]
 fn an_error_names_the_id_that_a_cache_lacks(rt: HostRuntime) {
-    assert_same(
-        &rt,
-        &error_of(&rt, &mut ("a", source(&rt)), &"b").name(),
-        &"b",
-    )
+    let error = error_of(&rt, &mut ("a", source(&rt)), &"b");
+    assert_is(&rt, error.name(), "b")
 }
 
 #[test]
 fn a_map_shows_the_name_of_an_id_that_it_lacks(rt: HostRuntime) {
     let mut map = map_of(&rt, "a", "x");
-    assert!(rt; !fetches(&mut map, &"z", "x"));
-    assert_same(&rt, &map.display(&"z"), &Some("z"))
+    assert_is(&rt, fetches(&mut map, &"z", "x"), false);
+    assert_is(&rt, map.display(&"z"), Some("z"))
 }
 
 /// Asserts that a text which is added to a table has this number, and is had by it.
@@ -85,8 +80,17 @@ fn assert_added(
     number: usize,
 ) {
     let added = table.add("a.txt", text).expect(rt, "memory");
-    assert_same(rt, &added, &number);
+    assert_is(rt, added, number);
     assert_fetched(rt, table, &number, text)
+}
+
+/// Asserts that a table of two sources lacks a third.
+fn assert_no_third(rt: &(impl Abort + AllocGlobal), table: &mut SourceTable<&'static str>) {
+    let names = (table.display(&1), table.display(&2));
+    assert_is(rt, names, (Some("a.txt"), None));
+    let error = error_of(rt, table, &2);
+    assert_is(rt, error.number, 2);
+    assert_text(rt, error.to_string(rt.alloc()), "Failed to fetch source 2")
 }
 
 #[test]
@@ -94,11 +98,7 @@ fn a_table_has_its_sources_by_number(rt: HostRuntime) {
     let mut table = SourceTable::new(rt.alloc());
     assert_added(&rt, &mut table, "x", 0);
     assert_added(&rt, &mut table, "y", 1);
-    let names = (table.display(&1), table.display(&2));
-    assert_same(&rt, &names, &(Some("a.txt"), None));
-    let error = error_of(&rt, &mut table, &2);
-    assert_same(&rt, &error.number, &2);
-    assert_text(&rt, error.to_string(rt.alloc()), "Failed to fetch source 2")
+    assert_no_third(&rt, &mut table)
 }
 
 /// Returns the same text for every id.
@@ -106,67 +106,86 @@ fn got(_id: &&'static str) -> Result<&'static str, ()> {
     Ok("got")
 }
 
-/// A source for `a` that is given to a cache.
-fn given(rt: &(impl Abort + AllocGlobal)) -> HashMap<&'static str, Source<&'static str>> {
-    let mut given = HashMap::new(rt.alloc());
-    let source = Source::from(rt.alloc(), "given").expect(rt, "memory");
-    assert!(rt; given.insert("a", source).is_ok());
-    given
-}
-
 /// Asserts that what is told was made, and has this in it.
 fn assert_holds(rt: &impl Abort, told: Result<String, AllocError>, part: &str) {
-    assert!(rt; told.expect(rt, "memory").contains(part))
+    assert_is(rt, told.expect(rt, "memory").contains(part), true)
+}
+
+/// Asserts that fetches of two ids return sources of these texts.
+fn assert_both<Id: Eq, C: Cache<Id>>(
+    rt: &impl Abort,
+    cache: &mut C,
+    first: (&Id, &str),
+    second: (&Id, &str),
+)
+    requires { C.can_fetch cache.old }
+    ensures { C.can_fetch cache.new }
+{
+    assert_fetched(rt, cache, first.0, first.1);
+    assert_fetched(rt, cache, second.0, second.1)
 }
 
 #[test]
 fn sources_that_are_given_replace_those_that_are_held(rt: HostRuntime) {
     let mut cache: FnCache<&'static str, _, &'static str> = FnCache::new(rt.alloc(), got);
-    assert_fetched(&rt, &mut cache, &"a", "got");
-    assert_fetched(&rt, &mut cache, &"b", "got");
-    let mut cache = cache.with_sources(given(&rt)).expect(&rt, "memory");
+    assert_both(&rt, &mut cache, (&"a", "got"), (&"b", "got"));
+    let given = given(&rt, "a", "given");
+    let mut cache = cache.with_sources(given).expect(&rt, "memory");
     assert_holds(&rt, format!(in rt.alloc(); "{cache:?}"), "given");
-    assert_fetched(&rt, &mut cache, &"a", "given");
-    assert_fetched(&rt, &mut cache, &"b", "got")
+    assert_both(&rt, &mut cache, (&"a", "given"), (&"b", "got"))
 }
 
-/// Asserts that the file at a path is read once, whether the path is a `String` or not.
-fn assert_read_once(rt: &(impl Abort + AllocGlobal + Files), path: &str) {
-    let owned = owned(rt, path);
-    let mut cache = FileCache::new(rt, rt.alloc());
-    assert_fetched(rt, &mut cache, &path, "\u{feff}a\r\n");
-    assert_same(rt, &cache.display(&path), &Some(path));
+/// Asserts that a fetch of a path returns the source of a file as it was first read, with this name.
+fn assert_first<Id: Eq, C: Cache<Id>>(rt: &impl Abort, cache: &mut C, path: &Id, name: &str)
+    requires { C.can_fetch cache.old }
+    ensures { C.can_fetch cache.new }
+{
+    assert_fetched(rt, cache, path, "\u{feff}a\r\n");
+    assert_is(rt, cache.display(path), Some(name))
+}
+
+/// Asserts that a cache reads the file at a path once, whether the path is a `String` or not.
+fn assert_held<R: Files + Drop>(
+    rt: &(impl Abort + AllocGlobal + Files),
+    cache: &mut FileCache<R>,
+    path: &str,
+) {
+    assert_first(rt, cache, &path, path);
 
     // What is held stays, under the same path as a `String` too.
-    fs::write(rt, path, "cd").expect(rt, "a file");
-    assert_fetched(rt, &mut cache, &owned, "\u{feff}a\r\n");
-    assert_same(rt, &cache.display(&owned), &Some(path))
+    write_file(rt, path, "cd");
+    assert_first(rt, cache, &owned(rt, path), path)
 }
 
 #[test]
 fn a_file_is_read_once_under_either_kind_of_path(rt: HostRuntime) {
-    let folder = Folder::new(&rt).expect(&rt, "a folder");
-    let file = folder
-        .file_of(&rt, "file.txt", b"\xef\xbb\xbfa\r\n")
-        .expect(&rt, "a file");
-    assert_read_once(&rt, file.as_str());
-    folder.remove(&rt).expect(&rt, "no folder")
+    let folder = new_folder(&rt);
+    let file = file_in(&rt, &folder, "file.txt", b"\xef\xbb\xbfa\r\n");
+    assert_held(&rt, &mut FileCache::new(&rt, rt.alloc()), file.as_str());
+    remove(&rt, folder)
 }
 
 /// Asserts that the file at a path is read where the path is a `String`, and had by it as it is.
-fn assert_read_first(rt: &(impl Abort + AllocGlobal + Files), path: &str) {
-    let owned = owned(rt, path);
-    let mut cache = FileCache::new(rt, rt.alloc());
-    assert_fetched(rt, &mut cache, &owned, "cd");
-    assert_fetched(rt, &mut cache, &path, "cd")
+fn assert_read_first<R: Files + Drop>(
+    rt: &(impl Abort + AllocGlobal),
+    cache: &mut FileCache<R>,
+    path: &str,
+) {
+    assert_fetched(rt, cache, &owned(rt, path), "cd");
+    assert_fetched(rt, cache, &path, "cd")
 }
 
 #[test]
 fn a_file_is_read_under_a_string_first(rt: HostRuntime) {
-    let folder = Folder::new(&rt).expect(&rt, "a folder");
-    let file = folder.file_of(&rt, "file.txt", b"cd").expect(&rt, "a file");
-    assert_read_first(&rt, file.as_str());
-    folder.remove(&rt).expect(&rt, "no folder")
+    let folder = new_folder(&rt);
+    let file = file_in(&rt, &folder, "file.txt", b"cd");
+    assert_read_first(&rt, &mut FileCache::new(&rt, rt.alloc()), file.as_str());
+    remove(&rt, folder)
+}
+
+/// Asserts that the error of the file at a path is told in these words.
+fn assert_told(rt: &(impl Abort + AllocGlobal), error: FileError, path: &str, words: &str) {
+    assert_text_of(rt, path, error.to_string(rt.alloc()), words)
 }
 
 /// Asserts that a fetch of a path tells that its file has no text, in these words.
@@ -176,9 +195,8 @@ fn assert_no_text<R: Files + Drop>(
     path: &str,
     words: &str,
 ) {
-    let error = error_of(rt, cache, &path);
-    assert_text_of(rt, path, error.to_string(rt.alloc()), words);
-    assert_same_of(rt, path, &cache.get(&path).is_some(), &false)
+    assert_told(rt, error_of(rt, cache, &path), path, words);
+    assert_is_of(rt, path, cache.get(&path).is_some(), false)
 }
 
 #[test]
@@ -204,24 +222,26 @@ fn the_system_tells_why_a_file_can_not_be_read(rt: HostRuntime) {
         "No such file or directory (os error 2)",
     );
     let held = format!(in rt.alloc(); "{cache:?}").expect(&rt, "memory");
-    assert!(rt; held.starts_with("FileCache"));
-    assert!(rt; FileError::NotUtf8.fault().is_none())
+    let has_name = held.starts_with("FileCache");
+    let has_fault = FileError::NotUtf8.fault().is_some();
+    assert_is(&rt, (has_name, has_fault), (true, false))
 }
 
 /// Asserts that the bytes of the file at a path are no text, and that it is read again.
-fn assert_read_again(rt: &(impl Abort + AllocGlobal + Files), path: &str) {
-    let mut cache = FileCache::new(rt, rt.alloc());
-    assert_no_text(rt, &mut cache, path, "file isn't UTF-8");
-    fs::write(rt, path, "ab").expect(rt, "a file");
-    assert_fetched(rt, &mut cache, &path, "ab")
+fn assert_read_again<R: Files + Drop>(
+    rt: &(impl Abort + AllocGlobal + Files),
+    cache: &mut FileCache<R>,
+    path: &str,
+) {
+    assert_no_text(rt, cache, path, "file isn't UTF-8");
+    write_file(rt, path, "ab");
+    assert_fetched(rt, cache, &path, "ab")
 }
 
 #[test]
 fn bytes_of_no_text_are_an_error_and_read_again(rt: HostRuntime) {
-    let folder = Folder::new(&rt).expect(&rt, "a folder");
-    let file = folder
-        .file_of(&rt, "file.txt", b"a\xff")
-        .expect(&rt, "a file");
-    assert_read_again(&rt, file.as_str());
-    folder.remove(&rt).expect(&rt, "no folder")
+    let folder = new_folder(&rt);
+    let file = file_in(&rt, &folder, "file.txt", b"a\xff");
+    assert_read_again(&rt, &mut FileCache::new(&rt, rt.alloc()), file.as_str());
+    remove(&rt, folder)
 }

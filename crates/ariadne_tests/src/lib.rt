@@ -26,6 +26,8 @@ mod extremes;
 #[cfg(test)]
 mod files;
 #[cfg(test)]
+mod folders;
+#[cfg(test)]
 mod functions;
 #[cfg(test)]
 mod held_sources;

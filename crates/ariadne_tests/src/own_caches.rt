@@ -7,6 +7,7 @@ ghost use Rattle.std.proofs.Common.{ap};
 
 use crate::asserts::{Piece, Why};
 use crate::caches::{assert_over, assert_two, map, report_at};
+use crate::comparing::assert_is;
 use ariadne::{Cache, FetchError, Report, Source, SourceMap, UnknownSource, WriteError, sources};
 use std::alloc::{AllocError, Global};
 use std::process::Abort;
@@ -81,7 +82,7 @@ fn discreet_map(rt: &(impl Abort + AllocGlobal)) -> Discreet<'static> {
 fn a_cache_of_the_callers_own_may_show_no_name(rt: HostRuntime) {
     let report = report_at(&rt, "x", LABELS);
     let left_out = [(2, Why::Unfetched)];
-    assert_over(&rt, &report, &mut discreet_map(&rt), &left_out, HIDDEN)
+    assert_over(&rt, report, &mut discreet_map(&rt), &left_out, HIDDEN)
 }
 
 /// A map of sources that returns want of memory at its second fetch of an id that it does not hold.
@@ -140,7 +141,7 @@ const LACKED: &[(&str, usize, usize, &str)] = &[
 ];
 
 /// Whether a report sends nothing over a cache, for want of memory.
-fn wants_memory(alloc: Global, report: &Report<'_, Piece>, cache: &mut Stingy<'static>) -> bool {
+fn wants_memory(alloc: Global, report: Report<'_, Piece>, cache: &mut Stingy<'static>) -> bool {
     let mut out = Vec::new(alloc);
     let answer = report.write(cache, &mut out);
     matches!(answer, Err(WriteError::Memory(_))) && out.is_empty()
@@ -150,7 +151,7 @@ fn wants_memory(alloc: Global, report: &Report<'_, Piece>, cache: &mut Stingy<'s
 fn where_a_cache_wants_memory_nothing_is_sent(rt: HostRuntime) {
     let mut cache = stingy_map(&rt);
     let report = report_at(&rt, "x", LACKED);
-    assert!(rt; wants_memory(rt.alloc(), &report, &mut cache));
+    assert_is(&rt, wants_memory(rt.alloc(), report, &mut cache), true);
     // What it holds is drawn.
     assert_two(&rt, &mut cache)
 }
