@@ -1,6 +1,7 @@
 //! Labels and builders when memory is refused: each request in turn, until a call meets no refusal.
 
 use crate::asserts::{assert_picture, plain_error};
+use crate::comparing::assert_same_of;
 use ariadne::{Label, Report, ReportBuilder};
 use ariadne_testing::{refuse, was_refused};
 use std::alloc::{AllocError, Global};
@@ -25,13 +26,24 @@ pub(crate) fn assert_refused(
     has_failed: bool,
 ) -> bool {
     let is_refused = was_refused(rt.alloc());
-    assert_eq!(rt; has_failed, is_refused, "of {name} at request {nth}");
+    assert_same_of(rt, name, &(nth, has_failed), &(nth, is_refused));
     is_refused
 }
 
 /// Asserts that something is right once a call has returned.
 pub(crate) fn assert_at(rt: &impl Abort, (name, nth): At<'_>, what: &str, is_right: bool) {
     assert!(rt; is_right, "{what} of {name} at request {nth}")
+}
+
+/// Asserts that a call has failed exactly where its request was refused, and that what it made is
+/// right. Returns whether it was refused.
+pub(crate) fn assert_tried(
+    rt: &(impl Abort + AllocGlobal),
+    at: At<'_>,
+    is_right: Result<bool, AllocError>,
+) -> bool {
+    assert_at(rt, at, "what was made", is_right.unwrap_or(true));
+    assert_refused(rt, at, is_right.is_err())
 }
 
 /// The rows of a picture over `ab`, in pieces.
@@ -95,7 +107,8 @@ fn label(alloc: Global) -> Result<Label, AllocError> {
 
 /// A report in the making with this label.
 fn labelled(alloc: Global) -> Result<ReportBuilder<'static>, AllocError> {
-    plain_error(alloc).with_label(label(alloc)?)
+    let label = label(alloc)?;
+    plain_error(alloc).with_label(label)
 }
 
 /// Refuses the nth request of giving a label a message, and the label to a report.
@@ -104,22 +117,16 @@ fn try_message(rt: &(impl Abort + AllocGlobal), nth: u16) -> bool {
     assert_made(rt, ("with_message", nth), labelled(rt.alloc()), LABELLED)
 }
 
-/// Whether a label can't be copied. A copy of it equals it.
-fn copy_fails(rt: &impl Abort, label: &Label) -> bool {
-    match label.clone() {
-        Ok(copy) => {
-            assert!(rt; copy == *label);
-            false
-        }
-        Err(_) => true,
-    }
+/// Copies a label, and returns whether the copy equals it.
+fn copy_equals(label: &Label) -> Result<bool, AllocError> {
+    Ok(label.clone()? == *label)
 }
 
 /// Refuses the nth request of a copy of a label, which stays as it was.
 fn try_copy(rt: &(impl Abort + AllocGlobal), nth: u16) -> bool {
     let label = label(rt.alloc()).expect(rt, "memory");
     refuse_at(rt, nth);
-    let is_refused = assert_refused(rt, ("clone", nth), copy_fails(rt, &label));
+    let is_refused = assert_tried(rt, ("clone", nth), copy_equals(&label));
     let builder = plain_error(rt.alloc()).with_label(label);
     assert_made(rt, ("clone", nth), builder, LABELLED);
     is_refused
@@ -186,9 +193,19 @@ fn begun(alloc: Global, step: &Step) -> Result<ReportBuilder<'static>, AllocErro
     }
 }
 
+/// Five labels that say nothing.
+fn five_labels() -> [Label; 5] {
+    [
+        Label::new(0..2),
+        Label::new(0..2),
+        Label::new(0..2),
+        Label::new(0..2),
+        Label::new(0..2),
+    ]
+}
+
 /// Makes a call of the builder by value.
 fn take<'a>(step: &Step, builder: ReportBuilder<'a>) -> Result<ReportBuilder<'a>, AllocError> {
-    let label = || Label::new(0..2);
     match step {
         Step::Code => builder.with_code(3),
         Step::CodeText => builder.with_code_text("E"),
@@ -196,7 +213,7 @@ fn take<'a>(step: &Step, builder: ReportBuilder<'a>) -> Result<ReportBuilder<'a>
         Step::Note => builder.with_note("new"),
         Step::Help => builder.with_help("new"),
         Step::Label => builder.with_label(Label::new(0..2)),
-        Step::Labels => builder.with_labels([label(), label(), label(), label(), label()]),
+        Step::Labels => builder.with_labels(five_labels()),
     }
 }
 
@@ -227,6 +244,8 @@ enum Call {
     SetHelp,
     AddHelp,
     AddLabel,
+    WithHelps,
+    WithNotes,
 }
 
 /// The header of a report that says `old`.
@@ -241,66 +260,83 @@ const NOTE: &[&str] = &["   |", "   | Note: old"];
 /// The picture of a label, a help and a note.
 const WHOLE: Rows = &[OLD, LABEL, HELP, NOTE, TAIL];
 
-/// Each such call, its name, and the picture before it and behind it.
-const CALLS: &[(Call, &str, Rows, Rows)] = &[
-    (
-        Call::SetMessage,
-        "set_message",
-        WHOLE,
-        &[&["Error: new"], LABEL, HELP, NOTE, TAIL],
-    ),
-    (
-        Call::SetNote,
-        "set_note",
-        WHOLE,
-        &[OLD, LABEL, HELP, &["   |", "   | Note: new"], TAIL],
-    ),
-    (
-        Call::AddNote,
-        "add_note",
-        WHOLE,
-        &[
+/// Such a call, its name, and the picture before it and behind it.
+struct Change {
+    call: Call,
+    name: &'static str,
+    before: Rows,
+    behind: Rows,
+}
+
+/// The calls that set or add one thing.
+const CHANGES: &[Change] = &[
+    Change {
+        call: Call::SetMessage,
+        name: "set_message",
+        before: WHOLE,
+        behind: &[&["Error: new"], LABEL, HELP, NOTE, TAIL],
+    },
+    Change {
+        call: Call::SetNote,
+        name: "set_note",
+        before: WHOLE,
+        behind: &[OLD, LABEL, HELP, &["   |", "   | Note: new"], TAIL],
+    },
+    Change {
+        call: Call::AddNote,
+        name: "add_note",
+        before: WHOLE,
+        behind: &[
             OLD,
             LABEL,
             HELP,
             &["   |", "   | Note 1: old", "   |", "   | Note 2: new"],
             TAIL,
         ],
-    ),
-    (
-        Call::SetHelp,
-        "set_help",
-        WHOLE,
-        &[OLD, LABEL, &["   |", "   | Help: new"], NOTE, TAIL],
-    ),
-    (
-        Call::AddHelp,
-        "add_help",
-        WHOLE,
-        &[
+    },
+    Change {
+        call: Call::SetHelp,
+        name: "set_help",
+        before: WHOLE,
+        behind: &[OLD, LABEL, &["   |", "   | Help: new"], NOTE, TAIL],
+    },
+    Change {
+        call: Call::AddHelp,
+        name: "add_help",
+        before: WHOLE,
+        behind: &[
             OLD,
             LABEL,
             &["   |", "   | Help 1: old", "   |", "   | Help 2: new"],
             NOTE,
             TAIL,
         ],
-    ),
-    (Call::AddLabel, "add_label", &[OLD], &[OLD, SILENT, TAIL]),
+    },
+    Change {
+        call: Call::AddLabel,
+        name: "add_label",
+        before: &[OLD],
+        behind: &[OLD, SILENT, TAIL],
+    },
 ];
 
-/// A report in the making with a label, a help and a note.
+/// The texts of helps or notes.
+const TEXTS: [&str; 3] = ["first", "second", "third"];
+
+/// A report in the making with a label, a help, a note and a message.
 fn whole(alloc: Global) -> Result<ReportBuilder<'static>, AllocError> {
-    labelled(alloc)?.with_help("old")?.with_note("old")
+    labelled(alloc)?
+        .with_help("old")?
+        .with_note("old")?
+        .with_message("old")
 }
 
-/// The report in the making that such a call is made of, with a message.
+/// The report in the making that such a call is made of.
 fn called(alloc: Global, call: &Call) -> Result<ReportBuilder<'static>, AllocError> {
-    let mut builder = match call {
-        Call::AddLabel => plain_error(alloc),
-        _ => whole(alloc)?,
-    };
-    builder.set_message("old")?;
-    Ok(builder)
+    match call {
+        Call::AddLabel => plain_error(alloc).with_message("old"),
+        _ => whole(alloc),
+    }
 }
 
 /// Makes a call of the builder by reference.
@@ -312,34 +348,45 @@ fn make(call: &Call, builder: &mut ReportBuilder<'_>) -> Result<(), AllocError> 
         Call::SetHelp => builder.set_help("new"),
         Call::AddHelp => builder.add_help("new"),
         Call::AddLabel => builder.add_label(Label::new(0..2)),
+        Call::WithHelps => builder.with_helps(TEXTS),
+        Call::WithNotes => builder.with_notes(TEXTS),
     }
 }
 
+/// Refuses the nth request of a call by reference, and returns whether it was refused.
+fn is_refused(
+    rt: &(impl Abort + AllocGlobal),
+    at: At<'_>,
+    call: &Call,
+    builder: &mut ReportBuilder<'_>,
+) -> bool {
+    refuse_at(rt, at.1);
+    assert_refused(rt, at, make(call, builder).is_err())
+}
+
 /// Refuses the nth request of a call by reference, of which a refusal changes nothing.
-fn try_call(rt: &(impl Abort + AllocGlobal), row: &(Call, &str, Rows, Rows), nth: u16) -> bool {
-    let (call, name, before, behind) = row;
-    let mut builder = called(rt.alloc(), call).expect(rt, "memory");
-    refuse_at(rt, nth);
-    let has_failed = make(call, &mut builder).is_err();
-    let is_refused = assert_refused(rt, (*name, nth), has_failed);
-    let pieces = if is_refused { *before } else { *behind };
-    assert_seen(rt, *name, &builder.finish(), pieces);
+fn try_change(rt: &(impl Abort + AllocGlobal), change: &Change, nth: u16) -> bool {
+    let mut builder = called(rt.alloc(), &change.call).expect(rt, "memory");
+    let is_refused = is_refused(rt, (change.name, nth), &change.call, &mut builder);
+    let rows = if is_refused {
+        change.before
+    } else {
+        change.behind
+    };
+    assert_seen(rt, change.name, &builder.finish(), rows);
     is_refused
 }
 
 #[test]
 fn a_refused_call_by_reference_changes_nothing(rt: HostRuntime) {
-    for row in CALLS {
+    for change in CHANGES {
         for nth in 1..MOST_REQUESTS {
-            if !try_call(&rt, row, nth) {
+            if !try_change(&rt, change, nth) {
                 break;
             }
         }
     }
 }
-
-/// The texts of helps or notes.
-const TEXTS: [&str; 3] = ["first", "second", "third"];
 
 /// The pictures of none of these helps, of the first, of two and of all.
 const HELPS: &[Rows] = &[
@@ -379,43 +426,46 @@ const NOTES: &[Rows] = &[
     ],
 ];
 
-/// Adds the texts as helps or as notes.
-fn add_texts(builder: &mut ReportBuilder<'_>, is_help: bool) -> Result<(), AllocError> {
-    if is_help {
-        builder.with_helps(TEXTS)
-    } else {
-        builder.with_notes(TEXTS)
-    }
+/// Asserts that a report has so many of what was added to it, and all where none was refused. The
+/// pictures are those of none of them, of the first, and so on. Returns how many there are.
+fn assert_added(
+    rt: &(impl Abort + AllocGlobal),
+    name: &str,
+    report: &Report<'_>,
+    added: usize,
+    pictures: &[Rows],
+    is_refused: bool,
+) -> usize {
+    let has_all = added.saturating_add(1) == pictures.len();
+    assert_same_of(rt, name, &is_refused, &!has_all);
+    let rows = pictures.get(added).expect(rt, "no more than were added");
+    assert_seen(rt, name, report, *rows);
+    added
 }
 
-/// Asserts that a report has the first of the texts, and all where none was refused. Returns how
-/// many it has.
+/// The same of helps or notes.
 fn assert_texts(
     rt: &(impl Abort + AllocGlobal),
     report: &Report<'_>,
     is_help: bool,
     is_refused: bool,
 ) -> usize {
-    let (texts, pictures) = if is_help {
-        (report.helps(), HELPS)
+    if is_help {
+        assert_added(rt, "texts", report, report.helps().len(), HELPS, is_refused)
     } else {
-        (report.notes(), NOTES)
-    };
-    let added = texts.len();
-    assert!(rt; is_refused == (added < 3));
-    match pictures.get(added) {
-        Some(pieces) => assert_seen(rt, "texts", report, *pieces),
-        None => panic!(rt; "more texts than were added"),
+        assert_added(rt, "texts", report, report.notes().len(), NOTES, is_refused)
     }
-    added
 }
 
 /// Refuses the nth request of adding helps or notes, and returns how many were added.
 fn try_texts(rt: &(impl Abort + AllocGlobal), is_help: bool, nth: u16) -> usize {
+    let call = if is_help {
+        &Call::WithHelps
+    } else {
+        &Call::WithNotes
+    };
     let mut builder = labelled(rt.alloc()).expect(rt, "memory");
-    refuse_at(rt, nth);
-    let has_failed = add_texts(&mut builder, is_help).is_err();
-    let is_refused = assert_refused(rt, ("texts", nth), has_failed);
+    let is_refused = is_refused(rt, ("texts", nth), call, &mut builder);
     assert_texts(rt, &builder.finish(), is_help, is_refused)
 }
 
@@ -448,43 +498,45 @@ fn nine_labels(alloc: Global) -> Result<Vec<Label>, AllocError> {
     Ok(labels)
 }
 
-/// The rows of so many of them.
-fn rows_of_labels(alloc: Global, count: usize) -> Result<Vec<&'static str>, AllocError> {
-    let mut rows = rows_of(
-        alloc,
-        if count == 0 {
-            &[HEADER]
-        } else {
-            &[HEADER, SILENT]
-        },
-    )?;
-    for _ in 0..count {
-        rows.extend_from_slice(&["   | |", "   | `-- x"])?;
-    }
-    if count > 0 {
-        rows.push("---'")?;
-    }
-    Ok(rows)
-}
+/// The rows of one of them, below the line.
+const ONE: &[&str] = &["   | |", "   | `-- x"];
 
-/// Asserts that a report has the first of them, and all where none was refused. Returns how many it
-/// has.
-fn assert_labels(rt: &(impl Abort + AllocGlobal), report: &Report<'_>, is_refused: bool) -> usize {
-    let added = report.labels().len();
-    assert!(rt; is_refused == (added < 9));
-    let rows = rows_of_labels(rt.alloc(), added).expect(rt, "memory");
-    assert_picture(rt, report, "ab", &rows).expect(rt, "add_labels");
-    added
+/// The pictures of none of them, of the first, and so on to all.
+const LABELS: &[Rows] = &[
+    &[HEADER],
+    &[HEADER, SILENT, ONE, TAIL],
+    &[HEADER, SILENT, ONE, ONE, TAIL],
+    &[HEADER, SILENT, ONE, ONE, ONE, TAIL],
+    &[HEADER, SILENT, ONE, ONE, ONE, ONE, TAIL],
+    &[HEADER, SILENT, ONE, ONE, ONE, ONE, ONE, TAIL],
+    &[HEADER, SILENT, ONE, ONE, ONE, ONE, ONE, ONE, TAIL],
+    &[HEADER, SILENT, ONE, ONE, ONE, ONE, ONE, ONE, ONE, TAIL],
+    &[HEADER, SILENT, ONE, ONE, ONE, ONE, ONE, ONE, ONE, ONE, TAIL],
+    &[
+        HEADER, SILENT, ONE, ONE, ONE, ONE, ONE, ONE, ONE, ONE, ONE, TAIL,
+    ],
+];
+
+/// Refuses the nth request of adding them to a report, and returns whether it was refused.
+fn are_refused(rt: &(impl Abort + AllocGlobal), builder: &mut ReportBuilder<'_>, nth: u16) -> bool {
+    let labels = nine_labels(rt.alloc()).expect(rt, "memory");
+    refuse_at(rt, nth);
+    assert_refused(rt, ("add_labels", nth), builder.add_labels(labels).is_err())
 }
 
 /// Refuses the nth request of adding labels, and returns how many were added.
 fn try_labels(rt: &(impl Abort + AllocGlobal), nth: u16) -> usize {
-    let labels = nine_labels(rt.alloc()).expect(rt, "memory");
     let mut builder = plain_error(rt.alloc());
-    refuse_at(rt, nth);
-    let has_failed = builder.add_labels(labels).is_err();
-    let is_refused = assert_refused(rt, ("add_labels", nth), has_failed);
-    assert_labels(rt, &builder.finish(), is_refused)
+    let is_refused = are_refused(rt, &mut builder, nth);
+    let report = builder.finish();
+    assert_added(
+        rt,
+        "add_labels",
+        &report,
+        report.labels().len(),
+        LABELS,
+        is_refused,
+    )
 }
 
 #[test]
