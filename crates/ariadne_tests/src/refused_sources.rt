@@ -1,8 +1,10 @@
 //! Sources and caches when memory is refused: each request in turn, until a call meets no refusal.
 
 use crate::asserts::source_of;
-use crate::refused::{At, MOST_REQUESTS, assert_at, assert_refused, refuse_at};
-use ariadne::{Cache, FetchError, FileCache, FnCache, Source, SourceTable, SourceText, sources};
+use crate::refused::{At, MOST_REQUESTS, assert_at, assert_refused, assert_tried, refuse_at};
+use ariadne::{
+    Cache, FetchError, FileCache, FnCache, Source, SourceMap, SourceTable, SourceText, sources,
+};
 use ariadne_testing::{Folder, texts};
 use std::alloc::{AllocError, Global};
 use std::cell::Cell;
@@ -21,64 +23,51 @@ fn has_lines<T: SourceText>(source: &Source<T>) -> bool {
 
 /// Whether a cache holds this text under an id, or none.
 pub(crate) fn holds<Id: Eq, C: Cache<Id>>(cache: &C, id: &Id, text: Option<&str>) -> bool {
-    match C::get(cache, id) {
-        Some(source) => text == Some(source.text()),
-        None => text.is_none(),
-    }
+    C::get(cache, id).map(|source| source.text()) == text
 }
 
-/// Whether a source can't be made. One that can is whole.
-fn source_fails(rt: &(impl Abort + AllocGlobal)) -> bool {
-    match Source::from(rt.alloc(), LINES) {
-        Ok(source) => {
-            assert!(rt; has_lines(&source));
-            false
-        }
-        Err(_) => true,
-    }
+/// Makes a source, and returns whether it is whole.
+fn made_source_is_whole(alloc: Global) -> Result<bool, AllocError> {
+    Ok(has_lines(&Source::from(alloc, LINES)?))
 }
 
 /// Refuses the nth request of making a source.
 fn try_source(rt: &(impl Abort + AllocGlobal), nth: u16) -> bool {
     refuse_at(rt, nth);
-    assert_refused(rt, ("from", nth), source_fails(rt))
+    assert_tried(rt, ("from", nth), made_source_is_whole(rt.alloc()))
 }
 
-/// Whether a source can't be copied. A copy of it equals it.
-fn copy_fails(rt: &(impl Abort + AllocGlobal), source: &Source) -> bool {
-    match source.clone() {
-        Ok(copy) => {
-            assert!(rt; copy == *source);
-            false
-        }
-        Err(_) => true,
-    }
+/// Copies a source, and returns whether the copy equals it.
+fn copy_equals(source: &Source) -> Result<bool, AllocError> {
+    Ok(source.clone()? == *source)
 }
 
 /// Refuses the nth request of a copy of a source, which keeps the source as it was.
 fn try_copy(rt: &(impl Abort + AllocGlobal), nth: u16) -> bool {
     let source = source_of(rt.alloc(), LINES).expect(rt, "memory");
     refuse_at(rt, nth);
-    let has_failed = copy_fails(rt, &source);
-    assert!(rt; has_lines(&source));
-    assert_refused(rt, ("clone", nth), has_failed)
+    let is_equal = copy_equals(&source);
+    assert_at(rt, ("clone", nth), "the source", has_lines(&source));
+    assert_tried(rt, ("clone", nth), is_equal)
 }
 
-/// Whether a map of sources can't be made. In one that can the last text of an id counts.
-fn map_fails(rt: &(impl Abort + AllocGlobal)) -> bool {
-    match sources(rt.alloc(), [("a", "x"), ("b", "y"), ("a", "z")]) {
-        Ok(map) => {
-            assert!(rt; holds(&map, &"a", Some("z")) && holds(&map, &"b", Some("y")));
-            false
-        }
-        Err(_) => true,
-    }
+/// Texts, of which the last one of an id counts.
+const LAST: [(&str, &str); 3] = [("a", "x"), ("b", "y"), ("a", "z")];
+
+/// Whether a map has the last text of each id.
+fn has_last(map: &SourceMap<&'static str, &'static str>) -> bool {
+    holds(map, &"a", Some("z")) && holds(map, &"b", Some("y"))
+}
+
+/// Makes a map of sources, and returns whether it has the last text of each id.
+fn made_map_has_last(alloc: Global) -> Result<bool, AllocError> {
+    Ok(has_last(&sources(alloc, LAST)?))
 }
 
 /// Refuses the nth request of a map of sources.
 fn try_map(rt: &(impl Abort + AllocGlobal), nth: u16) -> bool {
     refuse_at(rt, nth);
-    assert_refused(rt, ("sources", nth), map_fails(rt))
+    assert_tried(rt, ("sources", nth), made_map_has_last(rt.alloc()))
 }
 
 /// The ids of the sources that a cache is given.
@@ -99,38 +88,39 @@ fn got(_id: &&str) -> Result<&'static str, u8> {
     Ok("got")
 }
 
-/// Whether a cache can't be given sources. One that can holds them.
-fn giving_fails(
-    rt: &(impl Abort + AllocGlobal),
-    given: HashMap<&'static str, Source<&'static str>>,
-) -> bool {
-    let cache: FnCache<&'static str, _, &'static str> = FnCache::new(rt.alloc(), got);
-    match cache.with_sources(given) {
-        Ok(cache) => {
-            for id in GIVEN {
-                assert!(rt; holds(&cache, id, Some("given")));
-            }
-            false
+/// Whether a cache holds the sources that it was given.
+fn holds_given<C: Cache<&'static str>>(cache: &C) -> bool {
+    for id in GIVEN {
+        if !holds(cache, id, Some("given")) {
+            return false;
         }
-        Err(_) => true,
     }
+    true
+}
+
+/// Gives a cache sources, and returns whether it holds them.
+fn given_are_held(
+    alloc: Global,
+    given: HashMap<&'static str, Source<&'static str>>,
+) -> Result<bool, AllocError> {
+    let cache: FnCache<&'static str, _, &'static str> = FnCache::new(alloc, got);
+    Ok(holds_given(&cache.with_sources(given)?))
 }
 
 /// Refuses the nth request of giving a cache sources, which drops it.
 fn try_given(rt: &(impl Abort + AllocGlobal), nth: u16) -> bool {
     let given = given(rt.alloc()).expect(rt, "memory");
     refuse_at(rt, nth);
-    assert_refused(rt, ("with_sources", nth), giving_fails(rt, given))
+    assert_tried(rt, ("with_sources", nth), given_are_held(rt.alloc(), given))
 }
 
 /// Refuses the nth request of adding a source to a table, which then has none.
 fn try_table(rt: &(impl Abort + AllocGlobal), nth: u16) -> bool {
     let mut table = SourceTable::new(rt.alloc());
     refuse_at(rt, nth);
-    let has_failed = table.add("abc.txt", LINES).is_err();
-    let is_refused = assert_refused(rt, ("add", nth), has_failed);
+    let is_refused = assert_refused(rt, ("add", nth), table.add("abc.txt", LINES).is_err());
     let text = if is_refused { None } else { Some(LINES) };
-    assert!(rt; holds(&table, &0, text));
+    assert_at(rt, ("add", nth), "the table", holds(&table, &0, text));
     is_refused
 }
 
