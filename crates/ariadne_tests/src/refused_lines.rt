@@ -2,6 +2,7 @@
 //! the call meets no refusal.
 
 use crate::asserts::{assert_trimmed, plain, plain_error, source_of};
+use crate::comparing::assert_same;
 use crate::refused::{MOST_REQUESTS, assert_refused, refuse_at};
 use crate::refused_pictures::assert_answer;
 use ariadne::{Label, Report, ReportBuilder, Source};
@@ -61,13 +62,13 @@ fn cut(alloc: Global) -> Result<Report<'static>, AllocError> {
 }
 
 /// Asserts that nothing was sent of a picture that was refused, and else these rows.
-fn assert_sent(rt: &(impl Abort + AllocGlobal), out: Vec<u8>, rows: &[&str], is_refused: bool) {
+fn assert_sent(rt: &(impl Abort + AllocGlobal), out: &[u8], rows: &[&str], is_refused: bool) {
+    let picture = std::str::from_utf8(out).expect(rt, "text");
     if is_refused {
-        assert!(rt; out.is_empty());
-        return;
+        assert_same(rt, &picture, &"");
+    } else {
+        assert_trimmed(rt, picture, rows).expect(rt, "the picture")
     }
-    let picture = String::from_utf8(out).expect(rt, "text");
-    assert_trimmed(rt, picture.as_str(), rows).expect(rt, "the picture")
 }
 
 /// Refuses the nth request of writing a report with these rows, of which a refusal sends nothing.
@@ -83,29 +84,43 @@ fn try_write(
     let answer = report.write(source, &mut out);
     let is_refused = assert_refused(rt, ("a line", nth), answer.is_err());
     assert_answer(rt, answer, &[]);
-    assert_sent(rt, out, rows, is_refused);
+    assert_sent(rt, out.as_slice(), rows, is_refused);
     is_refused
 }
 
-/// Refuses each request in turn of writing a report over a text, which has these rows.
-fn try_writes(rt: &(impl Abort + AllocGlobal), report: &Report<'_>, text: &str, rows: &[&str]) {
-    let mut source = source_of(rt.alloc(), text).expect(rt, "memory");
+/// Refuses each request in turn of writing a report over a source.
+fn try_writes(
+    rt: &(impl Abort + AllocGlobal),
+    report: &Report<'_>,
+    source: &mut Source,
+    rows: &[&str],
+) {
     for nth in 1..MOST_REQUESTS {
-        if !try_write(rt, report, &mut source, rows, nth) {
+        if !try_write(rt, report, source, rows, nth) {
             return;
         }
     }
     panic!(rt; "every request was refused")
 }
 
+/// Refuses each request in turn of writing a report over a text, which has these rows.
+fn try_report(
+    rt: &(impl Abort + AllocGlobal),
+    made: Result<Report<'_>, AllocError>,
+    text: &str,
+    rows: &[&str],
+) {
+    let mut source = source_of(rt.alloc(), text).expect(rt, "memory");
+    let report = made.expect(rt, "memory");
+    try_writes(rt, &report, &mut source, rows)
+}
+
 #[test]
 fn a_refused_line_of_many_labels_sends_nothing(rt: HostRuntime) {
-    let report = crowded(rt.alloc()).expect(&rt, "memory");
-    try_writes(&rt, &report, "ab", ROWS);
+    try_report(&rt, crowded(rt.alloc()), "ab", ROWS)
 }
 
 #[test]
 fn a_refused_line_that_is_cut_sends_nothing(rt: HostRuntime) {
-    let report = cut(rt.alloc()).expect(&rt, "memory");
-    try_writes(&rt, &report, LONG.0, CUT_ROWS);
+    try_report(&rt, cut(rt.alloc()), LONG.0, CUT_ROWS)
 }
