@@ -3,10 +3,9 @@
 ghost use Rattle.std.specs.Prelude.{Some};
 
 use crate::asserts::{
-    APPLE_LABELS, APPLES, Mismatch, Why, assert_left_out, joined, labelled, plain, plain_error,
-    source_of,
+    APPLE_LABELS, APPLES, Why, assert_left_out, joined, labelled, plain, plain_error, source_of,
 };
-use crate::comparing::{assert_same, assert_text};
+use crate::comparing::{assert_same, assert_same_of, assert_text};
 use ariadne::{LeftOut, Report, RetryInterrupted, Sink, Source, WriteError};
 use ariadne_testing::Taker;
 use std::alloc::AllocError;
@@ -21,11 +20,6 @@ const LEN: usize = 223;
 fn apples(rt: &impl AllocGlobal) -> Result<Report<'static>, AllocError> {
     let builder = plain_error(rt.alloc()).with_message("can't compare apples with oranges")?;
     labelled(rt, builder, &APPLE_LABELS)
-}
-
-/// Its source.
-fn apple_source(rt: &(impl Abort + AllocGlobal)) -> Source {
-    source_of(rt.alloc(), "apple == orange;").expect(rt, "memory")
 }
 
 /// A sink over such a writer.
@@ -81,6 +75,10 @@ impl Write for Halting {
     }
 }
 
+/// What comes of a report: how many labels are left out. Or else how many bytes were sent before a
+/// fault, and the fault's kind, or nothing for want of memory.
+type Told = Result<usize, Option<(usize, ErrorKind)>>;
+
 /// A writer, and what comes of sending it the picture.
 #[derive(Drop)]
 struct Stop {
@@ -91,8 +89,8 @@ struct Stop {
     calls: usize,
     /// The fault, or none where it takes nothing.
     fault: Option<ErrorKind>,
-    /// How many bytes were sent before a fault, and the fault's kind.
-    want: Option<(usize, ErrorKind)>,
+    /// What comes of it.
+    want: Told,
     /// How many of the first bytes it holds.
     held: usize,
     /// How many calls it would still serve.
@@ -106,7 +104,7 @@ const STOPS: &[Stop] = &[
         room: 1,
         calls: LEN,
         fault: Some(ErrorKind::BrokenPipe),
-        want: None,
+        want: Ok(0),
         held: LEN,
         calls_left: 0,
     },
@@ -115,7 +113,7 @@ const STOPS: &[Stop] = &[
         room: 7,
         calls: LEN,
         fault: None,
-        want: None,
+        want: Ok(0),
         held: LEN,
         calls_left: 191,
     },
@@ -124,7 +122,7 @@ const STOPS: &[Stop] = &[
         room: 1,
         calls: 2,
         fault: None,
-        want: Some((2, ErrorKind::WriteZero)),
+        want: Err(Some((2, ErrorKind::WriteZero))),
         held: 2,
         calls_left: 0,
     },
@@ -133,7 +131,7 @@ const STOPS: &[Stop] = &[
         room: 1,
         calls: 0,
         fault: Some(ErrorKind::Interrupted),
-        want: Some((0, ErrorKind::Interrupted)),
+        want: Err(Some((0, ErrorKind::Interrupted))),
         held: 0,
         calls_left: 0,
     },
@@ -146,61 +144,72 @@ fn broken_after(calls: usize) -> Stop {
         room: 1,
         calls,
         fault: Some(ErrorKind::BrokenPipe),
-        want: Some((calls, ErrorKind::BrokenPipe)),
+        want: Err(Some((calls, ErrorKind::BrokenPipe))),
         held: calls,
         calls_left: 0,
     }
 }
 
-/// How many bytes were sent before a fault, and the fault's kind, or nothing where there was none.
-fn told<E: Drop>(
-    rt: &impl Abort,
-    answer: Result<Vec<LeftOut<E>>, WriteError>,
-) -> Option<(usize, ErrorKind)> {
-    match answer {
-        Ok(left_out) => {
-            assert!(rt; left_out.is_empty());
-            None
-        }
-        Err(WriteError::Io { sent, fault }) => Some((sent, fault.kind())),
-        Err(WriteError::Memory(_)) => panic!(rt; "no memory"),
+/// A way to write a report.
+enum Way<'a> {
+    Write(&'a mut Taker),
+    WriteForStdout(&'a mut Taker),
+    WriteTo(&'a mut Drain),
+    Retry(&'a mut RetryInterrupted<Halting>),
+}
+
+/// Writes a report.
+fn write(
+    report: &Report<'_>,
+    source: &mut Source,
+    way: Way<'_>,
+) -> Result<Vec<LeftOut<()>>, WriteError> {
+    match way {
+        Way::Write(out) => report.write(source, out),
+        Way::WriteForStdout(out) => report.write_for_stdout(source, out),
+        Way::WriteTo(out) => report.write_to(source, out),
+        Way::Retry(out) => report.write(source, out),
     }
 }
 
-/// Sends the report to a writer, and returns what comes of it.
-fn sent<W: Write>(rt: &(impl Abort + AllocGlobal), out: &mut W) -> Option<(usize, ErrorKind)> {
-    let report = apples(rt).expect(rt, "memory");
-    told(rt, report.write(&mut apple_source(rt), out))
+/// What comes of a report that was written.
+fn told(answer: Result<Vec<LeftOut<()>>, WriteError>) -> Told {
+    match answer {
+        Ok(left_out) => Ok(left_out.len()),
+        Err(WriteError::Io { sent, fault }) => Err(Some((sent, fault.kind()))),
+        Err(WriteError::Memory(_)) => Err(None),
+    }
 }
 
-/// Sends it to a sink.
-fn sent_to(rt: &(impl Abort + AllocGlobal), out: &mut Drain) -> Option<(usize, ErrorKind)> {
-    let report = apples(rt).expect(rt, "memory");
-    told(rt, report.write_to(&mut apple_source(rt), out))
+/// Writes a report that was made over a text, and returns what comes of it.
+fn sent(
+    rt: &(impl Abort + AllocGlobal),
+    made: Result<Report<'_>, AllocError>,
+    text: &str,
+    way: Way<'_>,
+) -> Told {
+    let mut source = source_of(rt.alloc(), text).expect(rt, "memory");
+    let report = made.expect(rt, "memory");
+    told(write(&report, &mut source, way))
+}
+
+/// Writes the report that all writers get.
+fn apples_sent(rt: &(impl Abort + AllocGlobal), way: Way<'_>) -> Told {
+    sent(rt, apples(rt), "apple == orange;", way)
 }
 
 /// Asserts that these are so many of the picture's first bytes.
 fn assert_held(rt: &(impl Abort + AllocGlobal), held: &[u8], count: usize) {
     let picture = joined(rt.alloc(), &APPLES).expect(rt, "memory");
     let bytes = picture.as_bytes();
-    assert!(rt; bytes.len() == LEN && count <= LEN);
-    assert_same(rt, &held, &&bytes[..count])
+    assert_same(rt, &(LEN, Some(held)), &(bytes.len(), bytes.get(..count)))
 }
 
 /// Asserts what comes of a writer, what it holds, and how many calls it would still serve.
-fn assert_stop(
-    rt: &(impl Abort + AllocGlobal),
-    stop: &Stop,
-    out: &Taker,
-    told: Option<(usize, ErrorKind)>,
-) {
-    let (name, held) = (stop.name, stop.held);
-    assert_eq!(rt;
-        (told, out.calls_left),
-        (stop.want, stop.calls_left),
-        "{name}, {held}"
-    );
-    assert_held(rt, out.held.as_slice(), held)
+fn assert_stop(rt: &(impl Abort + AllocGlobal), stop: &Stop, out: &Taker, told: Told) {
+    let wanted = (stop.held, stop.want, stop.calls_left);
+    assert_same_of(rt, stop.name, &(stop.held, told, out.calls_left), &wanted);
+    assert_held(rt, out.held.as_slice(), stop.held)
 }
 
 /// Such a writer.
@@ -211,7 +220,7 @@ fn taker(rt: &impl AllocGlobal, stop: &Stop) -> Taker {
 /// Asserts what comes of a writer.
 fn assert_writer(rt: &(impl Abort + AllocGlobal), stop: &Stop) {
     let mut out = taker(rt, stop);
-    let told = sent(rt, &mut out);
+    let told = apples_sent(rt, Way::Write(&mut out));
     assert_stop(rt, stop, &out, told)
 }
 
@@ -222,8 +231,8 @@ fn assert_sink(rt: &(impl Abort + AllocGlobal), stop: &Stop, had_failed: bool) {
         narrow: taker(rt, stop),
         met_fault: had_failed,
     };
-    let told = sent_to(rt, &mut out);
-    assert_same(rt, &out.failed(), &(had_failed || told.is_some()));
+    let told = apples_sent(rt, Way::WriteTo(&mut out));
+    assert_same(rt, &out.failed(), &(had_failed || told.is_err()));
     assert_stop(rt, stop, &out.narrow, told)
 }
 
@@ -243,7 +252,7 @@ fn an_interrupted_write_is_tried_again_where_that_is_asked_for(rt: HostRuntime) 
         taker: Taker::narrow(rt.alloc(), 7, LEN, None),
         was_interrupted: false,
     });
-    assert_same(&rt, &sent(&rt, &mut out), &None);
+    assert_same(&rt, &apples_sent(&rt, Way::Retry(&mut out)), &Ok(0));
     assert_held(&rt, out.into_inner().taker.held.as_slice(), LEN)
 }
 
@@ -261,10 +270,9 @@ fn a_sink_that_fails_holds_what_was_sent_and_has_failed(rt: HostRuntime) {
 
 #[test]
 fn for_standard_output_the_same_is_written(rt: HostRuntime) {
-    let report = apples(&rt).expect(&rt, "memory");
     let mut out = Taker::narrow(rt.alloc(), 7, LEN, None);
-    let answer = report.write_for_stdout(&mut apple_source(&rt), &mut out);
-    assert_same(&rt, &told(&rt, answer), &None);
+    let told = apples_sent(&rt, Way::WriteForStdout(&mut out));
+    assert_same(&rt, &told, &Ok(0));
     assert_held(&rt, out.held.as_slice(), LEN)
 }
 
@@ -276,36 +284,42 @@ fn compact(rt: &impl AllocGlobal) -> Result<Report<'static>, AllocError> {
 
 #[test]
 fn a_fault_of_standard_output_is_told(rt: HostRuntime) {
-    let report = compact(&rt).expect(&rt, "memory");
-    let mut source = source_of(rt.alloc(), "ab").expect(&rt, "memory");
     let mut out = Taker::narrow(rt.alloc(), 1, 7, Some(ErrorKind::BrokenPipe));
-    let answer = report.write_for_stdout(&mut source, &mut out);
-    assert_same(&rt, &told(&rt, answer), &Some((7, ErrorKind::BrokenPipe)));
+    let told = sent(&rt, compact(&rt), "ab", Way::WriteForStdout(&mut out));
+    assert_same(&rt, &told, &Err(Some((7, ErrorKind::BrokenPipe))));
     assert_same(&rt, &out.held.as_slice(), &b"Error: ".as_slice())
 }
 
-/// Prints a report to standard error, or else to standard output, and asserts that its second label is left out.
+/// Prints a report to standard error, or else to standard output.
 fn print(
-    rt: &(impl AllocGlobal + Print),
+    rt: &impl Print,
     stderr: Option<Stderr>,
     report: &Report<'_>,
-) -> Result<(), Mismatch> {
-    let mut source = source_of(rt.alloc(), "ab")?;
-    let answer = match stderr {
-        Some(stderr) => report.eprint(&mut source, stderr),
-        None => report.print(&mut source, rt),
-    };
-    match answer {
-        Ok(left_out) => assert_left_out(&left_out, &[(1, Why::PastSource)]),
-        Err(_) => Err(Mismatch::NoPicture),
+    source: &mut Source,
+) -> Result<Vec<LeftOut<()>>, WriteError> {
+    match stderr {
+        Some(stderr) => report.eprint(source, stderr),
+        None => report.print(source, rt),
     }
 }
 
+/// Prints a report, and asserts that its second label is left out.
+fn assert_printed(
+    rt: &(impl Abort + AllocGlobal + Print),
+    stderr: Option<Stderr>,
+    report: &Report<'_>,
+) {
+    let mut source = source_of(rt.alloc(), "ab").expect(rt, "memory");
+    let left_out = print(rt, stderr, report, &mut source).expect(rt, "a picture");
+    assert_left_out(&left_out, &[(1, Why::PastSource)]).expect(rt, "the label")
+}
+
 #[test]
-fn the_same_picture_is_printed(rt: HostRuntime) -> Result<(), Mismatch> {
-    let report = labelled(&rt, plain_error(rt.alloc()), &[(0, 2, "x"), (0, 9, "z")])?;
-    print(&rt, None, &report)?;
-    print(&rt, Some(rt.stderr()), &report)
+fn the_same_picture_is_printed(rt: HostRuntime) {
+    let made = labelled(&rt, plain_error(rt.alloc()), &[(0, 2, "x"), (0, 9, "z")]);
+    let report = made.expect(&rt, "memory");
+    assert_printed(&rt, None, &report);
+    assert_printed(&rt, Some(rt.stderr()), &report)
 }
 
 /// What is said of a write that was interrupted behind so many bytes.
