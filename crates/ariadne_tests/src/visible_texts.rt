@@ -1,15 +1,9 @@
 //! Texts that are made visible, with memory and without.
 
-ghost use Rattle.std.specs.Prelude.{◌<◌};
-
 use crate::comparing::{assert_same, assert_text};
+use crate::refused::{MOST_REQUESTS, assert_refused, refuse_at};
 use ariadne_safe::{TextKind, is_seen, visible};
-use ariadne_testing::{refuse, was_refused};
-use std::alloc::AllocError;
 use std::process::Abort;
-
-/// More than one text takes.
-const MOST_REQUESTS: usize = 1000;
 
 /// Texts, each with what is shown of it.
 const SHOWN: &[(&str, TextKind, &str)] = &[
@@ -40,30 +34,26 @@ fn hidden_characters_have_signs(rt: HostRuntime) {
     for (text, kind, want) in SHOWN {
         assert_text(&rt, visible(rt.alloc(), *text, *kind), *want);
     }
-    assert!(rt; is_seen("\u{26a0}\u{fe0f}\u{fe0e}\u{2801}\u{1161}\u{1342f}"));
-    assert!(rt; is_seen("é漢"));
-    assert!(rt; !is_seen("a\u{200d}b"))
+    let signs = "\u{26a0}\u{fe0f}\u{fe0e}\u{2801}\u{1161}\u{1342f}";
+    let seen = (is_seen(signs), is_seen("é漢"), is_seen("a\u{200d}b"));
+    assert_same(&rt, &seen, &(true, true, false))
 }
 
-/// Asserts that a text of which a sign is shown tells whether its nth request was refused. Returns
-/// whether it was shown.
-fn is_shown_without(rt: &(impl Abort + AllocGlobal), nth: usize) -> bool
-    requires { nth < 100000 }
-{
-    refuse(rt.alloc(), nth);
+/// Refuses the nth request of showing a text with a sign.
+fn try_sign(rt: &(impl Abort + AllocGlobal), nth: u16) -> bool {
+    refuse_at(rt, nth);
     let shown = visible(rt.alloc(), "a\u{1b}b", TextKind::OneRow);
-    let is_refused = was_refused(rt.alloc());
-    assert_same(rt, &(nth, shown.is_err()), &(nth, is_refused));
-    if let Ok(shown) = shown {
-        assert_same(rt, &shown.as_str(), &"a␛b");
+    let is_refused = assert_refused(rt, ("visible", nth), shown.is_err());
+    if !is_refused {
+        assert_text(rt, shown, "a␛b");
     }
-    !is_refused
+    is_refused
 }
 
 #[test]
 fn a_refused_sign_is_an_error(rt: HostRuntime) {
     for nth in 1..MOST_REQUESTS {
-        if is_shown_without(&rt, nth) {
+        if !try_sign(&rt, nth) {
             return;
         }
     }
