@@ -1,21 +1,17 @@
 //! Reports whose texts have what a terminal obeys, with memory and without. Their pictures were
 //! reckoned by the model in `tools/`. One in colours is a stored case of `ariadne_replay`.
 
-ghost use Rattle.std.specs.Prelude.{◌<◌};
-
 use crate::asserts::{Why, assert_left_out};
-use crate::comparing::assert_same;
+use crate::comparing::{assert_same, assert_text};
+use crate::refused::{MOST_REQUESTS, assert_refused, refuse_at};
 use crate::safe_example::tell;
 use ariadne::{CharSet, Color, Config, IndexType, Label, LeftOut, Reason, ReportKind, WriteError};
 use ariadne_safe::{
     LineEnds, NoSource, SafeBuilder, SafeKind, SafeReport, SafeSource, SafeSources,
 };
-use ariadne_testing::{refuse, was_refused};
 use std::alloc::{AllocError, Global};
+use std::ops::Range;
 use std::process::Abort;
-
-/// More than drawing it makes.
-const MOST_REQUESTS: usize = 1000;
 
 const TEXT: &str = "é\u{1b}[8m\u{202e}\r\nnext\u{b}();\n";
 
@@ -59,11 +55,21 @@ fn config() -> Config {
         .with_index_type(IndexType::Byte)
 }
 
-/// A report with two labels, of which the second cuts a character.
-fn labelled(alloc: Global, builder: SafeBuilder<'_>) -> Result<SafeBuilder<'_>, AllocError> {
-    let whole = Label::new((0, 3..6)).with_message(alloc, "one\ntwo")?;
-    let cut = Label::new((0, 1..2)).with_message(alloc, "cut")?;
-    builder.with_label(whole)?.with_label(cut)
+/// A label of the source.
+type FileLabel = Label<(usize, Range<usize>)>;
+
+/// A label of the source: its start, its end, which is not before it, and what it says.
+fn label(
+    alloc: Global,
+    (start, end, message): (usize, usize, &str),
+) -> Result<FileLabel, AllocError> {
+    Label::new((0, start..end.max(start))).with_message(alloc, message)
+}
+
+/// Two labels, of which the second cuts a character.
+fn labels(alloc: Global) -> Result<(FileLabel, FileLabel), AllocError> {
+    let whole = label(alloc, (3, 6, "one\ntwo"))?;
+    Ok((whole, label(alloc, (1, 2, "cut"))?))
 }
 
 /// A report with a text of each other kind.
@@ -75,26 +81,40 @@ fn described(builder: SafeBuilder<'_>) -> Result<SafeBuilder<'_>, AllocError> {
         .with_note("n\rm")
 }
 
-/// The report over the source, whose first line just fits: ` 1 | é␛[8m�` has 5 columns in front of 6.
+/// The report with these texts, whose first line just fits: ` 1 | é␛[8m�` has 5 columns in front of 6.
+fn fitted(builder: SafeBuilder<'_>) -> Result<SafeBuilder<'_>, AllocError> {
+    let width = 11 - builder.margin_columns()?.min(11);
+    described(builder.with_width(width))
+}
+
+/// The report over the source.
 fn report<'s>(
     alloc: Global,
     sources: &'s SafeSources,
     kind: SafeKind<'s>,
 ) -> Result<SafeReport<'s>, AllocError> {
+    let (whole, cut) = labels(alloc)?;
     let builder = SafeBuilder::new(alloc, sources, kind, (0, 3..3), config());
-    let builder = labelled(alloc, builder)?;
-    let width = 11 - builder.margin_columns()?.min(11);
-    Ok(described(builder.with_width(width))?.finish())
+    let builder = builder.with_label(whole)?.with_label(cut)?;
+    Ok(fitted(builder)?.finish())
 }
 
 /// What a report sends, and the labels that it leaves out.
 type Sent = (Vec<u8>, Vec<LeftOut<NoSource>>);
 
+/// Writes a report, and returns the labels that it leaves out.
+fn written(
+    report: &SafeReport<'_>,
+    out: &mut Vec<u8>,
+) -> Result<Vec<LeftOut<NoSource>>, WriteError> {
+    let _columns = report.margin_columns()?;
+    report.write(out)
+}
+
 /// What is sent of a report.
 fn sent(alloc: Global, report: SafeReport<'_>) -> Result<Sent, WriteError> {
     let mut out = Vec::new(alloc);
-    let _columns = report.margin_columns()?;
-    let left_out = report.write(&mut out)?;
+    let left_out = written(&report, &mut out)?;
     Ok((out, left_out))
 }
 
@@ -120,14 +140,14 @@ fn hint(rt: &impl Abort) -> SafeKind<'static> {
 }
 
 /// Asserts that what was sent is this.
-fn assert_text(rt: &impl Abort, sent: &[u8], want: &str) {
+fn assert_sent(rt: &impl Abort, sent: &[u8], want: &str) {
     assert_same(rt, &std::str::from_utf8(sent), &Ok(want))
 }
 
 #[test]
 fn every_text_shows_signs_for_what_it_hides(rt: HostRuntime) {
     let (out, left_out) = drawn(rt.alloc(), hint(&rt)).expect(&rt, "memory");
-    assert_text(&rt, out.as_slice(), PICTURE);
+    assert_sent(&rt, out.as_slice(), PICTURE);
     assert_left_out(&left_out, &[(1, Why::CutsCharacter)]).expect(&rt, "the label")
 }
 
@@ -136,7 +156,7 @@ fn the_example_of_the_page_shows_its_source(rt: HostRuntime) {
     let text = "ok();\u{1b}[3A\u{1b}[1G\u{1b}[J0 errors, 0 warnings\u{1b}[8m\n";
     let mut out = Vec::new(rt.alloc());
     tell(rt.alloc(), "g.txt", text, &mut out).expect(&rt, "a picture");
-    assert_text(&rt, out.as_slice(), EXAMPLE)
+    assert_sent(&rt, out.as_slice(), EXAMPLE)
 }
 
 /// The sources with one more, and its number.
@@ -155,11 +175,11 @@ fn assert_source(rt: &impl Abort, source: Option<&SafeSource>, name: Option<&str
 #[test]
 fn a_source_is_had_by_its_number(rt: HostRuntime) {
     let (sources, number) = two_sources(rt.alloc()).expect(&rt, "memory");
-    assert_same(&rt, &(number, sources.len()), &(1, 2));
+    let (count, has_third) = (sources.len(), sources.get(2).is_some());
+    assert_same(&rt, &(number, count, has_third), &(1, 2, false));
     let text = "é␛[8m\u{fffd}\r\nnext␋();\n";
     assert_source(&rt, sources.get(0), Some("g\u{fffd}.txt"), text);
-    assert_source(&rt, sources.get(1), None, "a\tb");
-    assert!(rt; sources.get(2).is_none())
+    assert_source(&rt, sources.get(1), None, "a\tb")
 }
 
 /// Offsets in bytes of the text, each with where it is in the shown one.
@@ -174,19 +194,18 @@ const OFFSETS: &[(usize, usize)] = &[
     (30, 26), // farther past it
 ];
 
-/// Where an offset of a source is shown, given in bytes and given in characters.
-fn shown(source: &SafeSource, offset: usize) -> (usize, usize) {
-    (
-        source.shown_offset(IndexType::Byte, offset),
-        source.shown_offset(IndexType::Char, offset),
-    )
+/// Asserts where an offset of a source is shown. One that is given in characters stays.
+fn assert_offset(rt: &impl Abort, source: &SafeSource, given: usize, want: usize) {
+    let in_bytes = source.shown_offset(IndexType::Byte, given);
+    let in_characters = source.shown_offset(IndexType::Char, given);
+    assert_same(rt, &(in_bytes, in_characters), &(want, given))
 }
 
 #[test]
 fn an_offset_in_bytes_is_found_in_the_shown_text(rt: HostRuntime) {
     let source = SafeSource::new(rt.alloc(), TEXT, LineEnds::LineFeeds).expect(&rt, "memory");
     for (given, want) in OFFSETS {
-        assert_same(&rt, &shown(&source, *given), &(*want, *given));
+        assert_offset(&rt, &source, *given, *want);
     }
 }
 
@@ -202,8 +221,8 @@ fn is_lost(left_out: &[LeftOut<NoSource>]) -> bool {
 /// Asserts that of a report of a kind this is sent, and that its label is left out.
 fn assert_without_source(rt: &(impl Abort + AllocGlobal), kind: SafeKind<'static>, want: &str) {
     let (out, left_out) = drawn_without_source(rt.alloc(), kind).expect(rt, "memory");
-    assert_text(rt, out.as_slice(), want);
-    assert!(rt; is_lost(&left_out))
+    assert_sent(rt, out.as_slice(), want);
+    assert_same(rt, &is_lost(&left_out), &true)
 }
 
 #[test]
@@ -211,37 +230,33 @@ fn a_label_of_a_number_without_source_is_left_out(rt: HostRuntime) {
     assert_without_source(&rt, SafeKind::error(), "Error: m\n");
     assert_without_source(&rt, SafeKind::warning(), "Warning: m\n");
     assert_without_source(&rt, SafeKind::advice(), "Advice: m\n");
-    let text = format!(in rt.alloc(); "{}", NoSource { number: 7 }).expect(&rt, "memory");
-    assert_same(&rt, &text.as_str(), &"no source has the number 7")
+    let text = NoSource { number: 7 }.to_string(rt.alloc());
+    assert_text(&rt, text, "no source has the number 7")
 }
 
 #[test]
 fn a_kind_that_hides_something_is_none(rt: HostRuntime) {
-    let told = SafeKind::new(ReportKind::Custom("Hint\u{200d}", Color::Red));
-    assert!(rt; told.is_none());
-    assert!(rt; SafeKind::new(ReportKind::Advice).is_some());
+    let hiding = SafeKind::new(ReportKind::Custom("Hint\u{200d}", Color::Red)).is_some();
+    let advice = SafeKind::new(ReportKind::Advice).is_some();
+    assert_same(&rt, &(hiding, advice), &(false, true))
 }
 
-/// Asserts that the report tells whether its nth request was refused, and else sends its picture.
-/// Returns whether it sent it.
-fn is_sent_without(rt: &(impl Abort + AllocGlobal), nth: usize) -> bool
-    requires { nth < 100000 }
-{
+/// Refuses the nth request of the report. Else its picture is sent.
+fn try_report(rt: &(impl Abort + AllocGlobal), nth: u16) -> bool {
     let kind = hint(rt);
-    refuse(rt.alloc(), nth);
+    refuse_at(rt, nth);
     let drawn = drawn(rt.alloc(), kind);
-    let is_refused = was_refused(rt.alloc());
-    assert_same(rt, &(nth, drawn.is_err()), &(nth, is_refused));
+    let is_refused = assert_refused(rt, ("a safe report", nth), drawn.is_err());
     if let Ok((out, _left_out)) = drawn {
-        assert_text(rt, out.as_slice(), PICTURE);
+        assert_sent(rt, out.as_slice(), PICTURE);
     }
-    !is_refused
+    is_refused
 }
 
 #[test]
 fn a_refused_request_of_a_safe_report_is_its_error(rt: HostRuntime) {
     for nth in 1..MOST_REQUESTS {
-        if is_sent_without(&rt, nth) {
+        if !try_report(&rt, nth) {
             return;
         }
     }
