@@ -1,7 +1,7 @@
 //! Builders of reports.
 
-ghost use Rattle.std.specs.Prelude.{◌≡◌, ℕ, ◌++◌, ◌∷◌, [], List, map, Some, IfOk, OnOk, OnErr};
-ghost use Rattle.std.specs.Prelude.{string_bytes};
+ghost use Rattle.std.specs.Prelude.{◌≡◌, ℕ, ◌++◌, ◌∷◌, [], List, map, Some, IfOk, IsOkAnd, OnOk};
+ghost use Rattle.std.specs.Prelude.{MatchResult, OnErr, string_bytes};
 ghost use Rattle.std.specs.Borrow.{Bor};
 ghost use Rattle.std.specs.Iterator.{IsFiniteIterable};
 ghost use Rattle.ariadne_picture.specs.Report.{LabelFields};
@@ -65,28 +65,36 @@ impl<'a, S: Span> ReportBuilder<'a, S> {
 
     /// The report with this number as its code; an older code is dropped. The header shows the code
     /// in brackets before the kind: the decimal digits, with a zero before a single digit.
-    pub fn with_code(self, code: u64) -> Result<ReportBuilder<'a, S>, AllocError>
+    pub fn with_code(mut self, code: u64) -> Result<ReportBuilder<'a, S>, AllocError>
     where
         S: Drop,
         ensures { IfOk result (λ report. report ≡ record self.entry
             { code = Some (numeric_code code) }) }
     {
-        let ReportBuilder { mut report } = self;
-        report.code = Some(number_code(report.alloc, code)?);
-        Ok(ReportBuilder { report })
+        let code = number_code(self.report.alloc, code);
+        self.set_code(code).and(Ok(self))
     }
 
     /// The report with this text as its code; an older code is dropped. The header shows the code
     /// in brackets before the kind, filled with blanks to two characters.
-    pub fn with_code_text(self, code: &str) -> Result<ReportBuilder<'a, S>, AllocError>
+    pub fn with_code_text(mut self, code: &str) -> Result<ReportBuilder<'a, S>, AllocError>
     where
         S: Drop,
         ensures { IfOk result (λ report. report ≡ record self.entry
             { code = Some (filled_code code.now) }) }
     {
-        let ReportBuilder { mut report } = self;
-        report.code = Some(text_code(report.alloc, code)?);
-        Ok(ReportBuilder { report })
+        let code = text_code(self.report.alloc, code);
+        self.set_code(code).and(Ok(self))
+    }
+
+    /// Sets this code, if there was memory for it; an older code is dropped.
+    fn set_code(&mut self, code: Result<String, AllocError>) -> Result<(), AllocError>
+        ensures { OnOk result (IsOkAnd code
+            (λ text. self.new ≡ record self.old { code = Some (string_bytes text) })) }
+    {
+        let report = &mut self.report;
+        report.code = Some(code?);
+        Ok(())
     }
 
     /// Sets the message; an older message is dropped. On `Err` memory ran out, and the report is
@@ -108,8 +116,7 @@ impl<'a, S: Span> ReportBuilder<'a, S> {
         ensures { IfOk result (λ report. report ≡ record self.entry
             { message = Some message.now }) }
     {
-        self.set_message(message)?;
-        Ok(self)
+        self.set_message(message).and(Ok(self))
     }
 
     /// Sets this note as the only one. On `Err` memory ran out, and the report is unchanged.
@@ -120,9 +127,7 @@ impl<'a, S: Span> ReportBuilder<'a, S> {
         ensures err { OnErr result (self.new ≡ self.old) }
     {
         let report = &mut self.report;
-        let note = String::from_str(report.alloc, note)?;
-        report.notes = vec![in report.alloc; note]?;
-        Ok(())
+        set_text(&mut report.notes, report.alloc, note)
     }
 
     /// Adds a note after the others. On `Err` memory ran out, and the report is unchanged.
@@ -134,9 +139,7 @@ impl<'a, S: Span> ReportBuilder<'a, S> {
         ensures err { OnErr result (self.new ≡ self.old) }
     {
         let report = &mut self.report;
-        let note = String::from_str(report.alloc, note)?;
-        report.notes.push(note)?;
-        Ok(())
+        push_text(&mut report.notes, report.alloc, note)
     }
 
     /// Adds these notes in turn, after the others. On `Err` memory ran out at one of the notes: the
@@ -176,8 +179,7 @@ impl<'a, S: Span> ReportBuilder<'a, S> {
         ensures { IfOk result (λ report. report ≡ record self.entry
             { notes = self.entry.notes ++ note.now ∷ [] }) }
     {
-        self.add_note(note)?;
-        Ok(self)
+        self.add_note(note).and(Ok(self))
     }
 
     /// Sets this help as the only one. On `Err` memory ran out, and the report is unchanged.
@@ -188,9 +190,7 @@ impl<'a, S: Span> ReportBuilder<'a, S> {
         ensures err { OnErr result (self.new ≡ self.old) }
     {
         let report = &mut self.report;
-        let help = String::from_str(report.alloc, help)?;
-        report.helps = vec![in report.alloc; help]?;
-        Ok(())
+        set_text(&mut report.helps, report.alloc, help)
     }
 
     /// Adds a help after the others. On `Err` memory ran out, and the report is unchanged.
@@ -202,9 +202,7 @@ impl<'a, S: Span> ReportBuilder<'a, S> {
         ensures err { OnErr result (self.new ≡ self.old) }
     {
         let report = &mut self.report;
-        let help = String::from_str(report.alloc, help)?;
-        report.helps.push(help)?;
-        Ok(())
+        push_text(&mut report.helps, report.alloc, help)
     }
 
     /// Adds these helps in turn, after the others. On `Err` memory ran out at one of the helps: the
@@ -244,8 +242,7 @@ impl<'a, S: Span> ReportBuilder<'a, S> {
         ensures { IfOk result (λ report. report ≡ record self.entry
             { helps = self.entry.helps ++ help.now ∷ [] }) }
     {
-        self.add_help(help)?;
-        Ok(self)
+        self.add_help(help).and(Ok(self))
     }
 
     /// Adds a label after the others. On `Err` memory ran out: the label is dropped, and the report
@@ -293,8 +290,7 @@ impl<'a, S: Span> ReportBuilder<'a, S> {
         ensures { IfOk result (λ report. report ≡ record self.entry
             { labels = self.entry.labels ++ label ∷ [] }) }
     {
-        self.add_label(label)?;
-        Ok(self)
+        self.add_label(label).and(Ok(self))
     }
 
     /// The report with these labels in turn, after the others. On `Err` memory ran out, and labels
@@ -312,8 +308,7 @@ impl<'a, S: Span> ReportBuilder<'a, S> {
             × GivesAll T.into_iter_gives T.IntoIter.next_gives labels added
             × (report ≡ record self.entry { labels = self.entry.labels ++ added })) }
     {
-        self.add_labels(labels)?;
-        Ok(self)
+        self.add_labels(labels).and(Ok(self))
     }
 
     /// The settings of the picture, and the unit of offsets.
@@ -339,6 +334,27 @@ impl<'a, S: Span> ReportBuilder<'a, S> {
         let ReportBuilder { report } = self;
         Report { data: report }
     }
+}
+
+/// Adds a text after others. On `Err` memory ran out, and they are unchanged.
+fn push_text(texts: &mut Vec<String>, alloc: Global, text: &str) -> Result<(), AllocError>
+    ensures { MatchResult result
+        (λ _. map string_bytes texts.new.items
+        ≡ map string_bytes texts.old.items ++ text.now ∷ [])
+        (λ _. texts.new.items ≡ texts.old.items) }
+{
+    texts.push(String::from_str(alloc, text)?)?;
+    Ok(())
+}
+
+/// Puts a text in place of others. On `Err` memory ran out, and they are unchanged.
+fn set_text(texts: &mut Vec<String>, alloc: Global, text: &str) -> Result<(), AllocError>
+    ensures { MatchResult result (λ _. map string_bytes texts.new.items ≡ text.now ∷ [])
+        (λ _. texts.new.items ≡ texts.old.items) }
+{
+    let text = String::from_str(alloc, text)?;
+    *texts = vec![in alloc; text]?;
+    Ok(())
 }
 
 /// The code for a number: the digits, with zeros before to at least two.
