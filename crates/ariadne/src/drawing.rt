@@ -11,7 +11,7 @@ ghost use Rattle.ariadne_render.specs.LongLines.{IsRemembered};
 ghost use Rattle.ariadne_report.specs.CacheReads.{AreDrawn, world};
 ghost use Rattle.ariadne_report.specs.DrawnGroups.{AreGroups};
 ghost use Rattle.ariadne.specs.WholePages.{IsForReport, groups_rows, groups_text, page_of};
-ghost use Rattle.ariadne.specs.WholePages.{shown_palette};
+ghost use Rattle.ariadne.specs.WholePages.{picture_rows, shown_palette};
 
 use ariadne_base::{Cache, Span};
 use ariadne_color::Color;
@@ -91,10 +91,35 @@ fn draw_on<'t, S: Span, C: Cache<S::SourceId>>(
         ≡ groups_text w report.now (map (λ g. g.now) groups.now)) }
 {
     let mut writer = Writer::new(report.alloc, page);
+    let mut lists = Lists::new(report.alloc);
+    push_picture(&mut writer, &mut lists, texts, report, cache, groups).and(Ok(writer.into_text()))
+}
+
+/// Writes the rows of a report's picture with these texts: its header, and below it the groups.
+fn push_picture<'a, 't, S: Span, C: Cache<S::SourceId>>(
+    writer: &mut Writer<'_>,
+    lists: &mut Lists<'a>,
+    texts: &'t Texts<'t>,
+    report: &'t ReportData<'_, S>,
+    cache: &'t C,
+    groups: &[&'a [LabelInfo]],
+) -> Result<(), AllocError>
+    requires page { let w = world S.source_of S.start_of S.end_of S.SourceId.eq
+        (C.names cache.now) (C.contents cache.now) in
+        writer.old.pen.page ≡ page_of w report.now (map (λ g. g.now) groups.now) }
+    requires one_page { writer.old.gutter.page ≡ writer.old.pen.page }
+    requires texts { texts.now ≡ texts_of report.now }
+    requires groups { let w = world S.source_of S.start_of S.end_of S.SourceId.eq
+        (C.names cache.now) (C.contents cache.now) in
+        AreGroups w report.now (map (λ g. g.now) groups.now) }
+    ensures { let w = world S.source_of S.start_of S.end_of S.SourceId.eq
+        (C.names cache.now) (C.contents cache.now) in
+        OnOk result (DrawsRows writer.old.pen writer.new.pen
+        (picture_rows w report.now (map (λ g. g.now) groups.now))) }
+{
     writer.pen.reserve(FIRST_ROOM)?;
     push_header(&mut writer.pen, texts)?;
-    push_groups(&mut writer, texts, report, cache, groups)?;
-    Ok(writer.into_text())
+    push_groups(writer, lists, texts, report, cache, groups)
 }
 
 /// What all rows of a report's picture share, whose groups these are.
@@ -140,9 +165,10 @@ fn shown_colors<S: Span>(report: &ReportData<'_, S>) -> Result<Vec<Option<Color>
     Ok(labels)
 }
 
-/// Writes the groups of a picture with these texts of the report.
+/// Writes the groups of a picture with these texts of the report. The lists are filled anew.
 fn push_groups<'a, 't, S: Span, C: Cache<S::SourceId>>(
     writer: &mut Writer<'_>,
+    lists: &mut Lists<'a>,
     texts: &'t Texts<'t>,
     report: &'t ReportData<'_, S>,
     cache: &'t C,
@@ -160,7 +186,7 @@ fn push_groups<'a, 't, S: Span, C: Cache<S::SourceId>>(
         (groups_rows w report.now width (map (λ g. g.now) groups.now))) }
 {
     let own = own_offset(report, cache);
-    let mut lists = Lists::new(report.alloc);
+    lists.long_line = None;
     for index in 0..groups.len() {
         let group = groups[index];
         let before = groups[index.saturating_sub(1)];
@@ -175,7 +201,7 @@ fn push_groups<'a, 't, S: Span, C: Cache<S::SourceId>>(
             index,
             groups.len(),
         );
-        push_snippet(writer, &mut lists, &snippet)?;
+        push_snippet(writer, lists, &snippet)?;
     }
     Ok(())
 }

@@ -1,51 +1,33 @@
--- The groups are drawn below the header, and what a new pen has written at last is the picture.
-use Rattle.std.proofs.Common.{◌≡◌, ◌∙◌, List, [], ap, map, subst, sym, Bor}
-use Rattle.ariadne_picture.specs.Canvas.{header_pieces, palette_of, texts_of}
-use Rattle.ariadne_picture.specs.Pieces.{Texts}
+-- What a new pen has written at last is the picture.
+use Rattle.std.proofs.Common.{◌∙◌, List, ap, map, sym, Bor}
+use Rattle.ariadne_picture.specs.Canvas.{palette_of}
 use Rattle.ariadne_picture.specs.declared.label_info.LabelInfo.{LabelInfo}
-use Rattle.ariadne_render.specs.Pages.{DrawsRow, PageFields, PenFields}
-use Rattle.ariadne_render.proofs.Drawn.{page_kept}
+use Rattle.ariadne_render.specs.Pages.{PageFields, PenFields}
 use Rattle.ariadne_render.specs.Gutters.{GutterFields}
 use Rattle.ariadne_report.specs.CacheReads.{world}
 use Rattle.ariadne.specs.WholePages.{picture_rows}
-use Rattle.ariadne.proofs.WholePictures.{picture_drawn, rows_written}
-use Rattle.ariadne.proofs.drawing.draw_on.Given.{Over}
-use Rattle.ariadne.proofs.drawing.draw_on.Goals.{In_ok-push_header}
+use Rattle.ariadne.proofs.Building.{on_ok_and}
+use Rattle.ariadne.proofs.WholePictures.{rows_written}
 use Rattle.ariadne.proofs.drawing.draw_on.Goals as goal
 
--- the pen is at the start of the page
-fresh : (g : Over) (c : In_ok-push_header g) → c.reserve.new.self ≡ record { page = c.args.page.now; bytes = [] }
-fresh g c = c.in_ok-reserve.ensures ∙ c.new-writer.ensures.pen
+-- the pen is of the page
+pub push_picture-requires-clause-page : goal.push_picture-requires-clause-page
+push_picture-requires-clause-page g c = ap (λ (x : PenFields). x.page) c.new-writer.ensures.pen ∙ c.requires.page
 
--- the header is that of the report
-header : (g : Over) (c : In_ok-push_header g) → DrawsRow c.reserve.new.self c.push_header.new.pen (header_pieces (texts_of c.args.report.now))
-header g c =
-    subst (λ (t : Texts). DrawsRow c.reserve.new.self c.push_header.new.pen (header_pieces t)) c.requires.texts c.in_ok-push_header.ensures
+-- so is the gutter
+pub push_picture-requires-clause-one_page : goal.push_picture-requires-clause-one_page
+push_picture-requires-clause-one_page g c =
+    ap (λ (x : GutterFields). x.page) c.new-writer.ensures.gutter ∙ sym (ap (λ (x : PenFields). x.page) c.new-writer.ensures.pen)
 
--- so pen and gutter are of the page
-pub push_groups-requires-clause-writer : goal.push_groups-requires-clause-writer
-push_groups-requires-clause-writer g c =
-    let b = (goal.at.push_groups-requires-clause-writer g c).In_ok-push_header in
-    let page : c.push_header.new.pen.page ≡ c.args.page.now =
-    page_kept c.reserve.new.self c.push_header.new.pen _ (header g b) ∙ ap (λ (x : PenFields). x.page) (fresh g b) in
-    record {
-      one_page = ap (λ (x : GutterFields). x.page) c.new-writer.ensures.gutter ∙ sym page;
-      switches = ap (λ (x : PageFields). x.switches) (page ∙ c.requires.page);
-    }
-
--- its bytes are those of the picture
+-- the bytes are those of the rows
 pub returns : goal.returns
 returns g c =
     let w = world g.S.Span.source_of g.S.Span.start_of g.S.Span.end_of g.S.SourceId.PartialEq.eq (g.C.Cache.names c.args.cache.now)
     (g.C.Cache.contents c.args.cache.now) in
     let r = c.args.report.now in
     let gs = map (λ (x : Bor (List LabelInfo)). x.now) c.args.groups.now in
-    let b = (goal.at.returns g c).In_ok-push_header in
-    let page : c.push_header.new.pen.page ≡ c.args.page.now =
-    page_kept c.reserve.new.self c.push_header.new.pen _ (header g b) ∙ ap (λ (x : PenFields). x.page) (fresh g b) in
-    let width = ap (λ (x : PageFields). x.number_width) (page ∙ c.requires.page) in
-    c.into_text.ensures
-    ∙ rows_written (palette_of r) (picture_rows w r gs) c.args.page.now c.reserve.new.self c.push_groups.new.writer.pen (fresh g b)
-    (ap (λ (x : PageFields). x.palette) c.requires.page)
-    (picture_drawn w r gs c.push_header.new.pen.page.number_width c.reserve.new.self c.push_header.new.pen c.push_groups.new.writer.pen width
-    (header g b) c.in_ok-push_groups.ensures)
+    on_ok_and c.push_picture.result _ c.and.ensures
+    (λ drawn. c.into_text.ensures
+    ∙ rows_written (palette_of r) (picture_rows w r gs) c.args.page.now c.new-writer.result.pen c.push_picture.new.writer.pen c.new-writer.ensures.pen
+    (ap (λ (x : PageFields). x.palette) c.requires.page) drawn)
+    c.push_picture.ensures

@@ -44,16 +44,12 @@ no_label = record {
 -- no row is written
 pub loop-index-init : goal.loop-index-init
 unfolding joined
-loop-index-init g c =
-    let w = world g.S.Span.source_of g.S.Span.start_of g.S.Span.end_of g.S.SourceId.PartialEq.eq (g.C.Cache.names c.args.cache.now)
-    (g.C.Cache.contents c.args.cache.now) in
-    record {
-      page = refl;
-      one_page = c.requires.writer.one_page;
-      known = λ before there.
-          subst (λ long. IsRemembered (listed_lines (group_source w c.args.report.now before)) long) (sym c.new-lists.ensures.long_line) tt;
-      drawn = draws_rows_none c.args.writer.now.pen;
-    }
+loop-index-init g c = record {
+  page = refl;
+  one_page = c.requires.writer.one_page;
+  known = λ before there. tt;
+  drawn = draws_rows_none c.args.writer.now.pen;
+}
 
 -- ---- what is remembered
 
