@@ -105,6 +105,15 @@ gcc_read d = record (gcc_bare d) {
   proposals = option_to_list (gcc_proposed (0, length (gcc_changes d)) [] (fixits_of d));
 }
 
+-- one without helps, to which the parts of a diagnostic are added
+abbrev pub with_parts : Read → Data → Read
+with_parts parsed d = record parsed {
+  spans = (parsed.spans ++ location_value_spans true (location_values_of d)) ++ event_spans 1 (events_of d);
+  notes = parsed.notes ++ event_notes 1 (events_of d);
+  helps = gcc_changes d;
+  proposals = parsed.proposals ++ option_to_list (gcc_proposed (0, length (gcc_changes d)) [] (fixits_of d));
+}
+
 -- ---- its notes
 
 -- two columns are the same

@@ -25,6 +25,7 @@ use Rattle.ariadne_parse.specs.Rustc.{rustc_read}
 use Rattle.ariadne_parse.specs.Sent.{IsHeldNow, WasSent}
 use Rattle.ariadne_parse.specs.Severities.{severity_of}
 use Rattle.ariadne_parse.specs.declared.diagnostic.Diagnostic.{Diagnostic}
+use Rattle.ariadne_parse.specs.declared.diagnostic.Severity.{Severity}
 use Rattle.ariadne_parse.specs.declared.diagnostic.End.{End}
 use Rattle.ariadne_parse.specs.declared.diagnostic.End.TheVariants.{Before, Behind, OfWord}
 use Rattle.ariadne_parse.specs.declared.diagnostic.Span.{Span}
@@ -206,6 +207,18 @@ others_among head counting ranges =
 
 abbrev pub other_spans : Head → Counting → List Seen
 other_spans head counting = others_among head counting (ranges_in 16 head.ranges)
+
+-- a diagnostic has this severity, kind of its own, code and message, and nothing else yet
+pub record IsBegun (grade : Severity) (name option : Option (List ℕ)) (said : List ℕ) (parsed : Diagnostic) : Type 0 where
+  pub severity : parsed.severity ≡ grade
+  pub own_kind : option_map named parsed.own_kind ≡ option_map (λ name. (name, None)) name
+  pub code : option_map string_bytes parsed.code ≡ option
+  pub message : string_bytes parsed.message ≡ said
+  pub spans : parsed.spans.items ≡ []
+  pub notes : parsed.notes.items ≡ []
+  pub helps : parsed.helps.items ≡ []
+  pub proposals : parsed.proposals.items ≡ []
+  pub is_counted : parsed.is_sum ≡ false
 
 -- a diagnostic is what a head tells whose columns count so
 pub record IsOfHead (counting : Counting) (head : Head) (parsed : Diagnostic) : Type 0 where

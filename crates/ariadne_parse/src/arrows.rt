@@ -11,7 +11,7 @@ ghost use Rattle.ariadne_parse.specs.Spans.{seen};
 
 use crate::diagnostic::{Diagnostic, End, Location, Severity, Span};
 use crate::fronts::span_at_end;
-use crate::heads::{copied, own_kind, span as span_of_file};
+use crate::heads::{begun, span as span_of_file};
 use crate::kinds::sure_kind;
 use crate::pieces::{behind_text, in_front_of, past_blanks};
 use crate::unit::Unit;
@@ -35,10 +35,7 @@ impl BareHead<'_> {
     pub fn parsed(&self, alloc: Global) -> Result<Diagnostic, AllocError>
         ensures { IfOk result (IsOfBareHead (bare_parsed self.now)) }
     {
-        let mut parsed = Diagnostic::new(alloc, self.severity, self.message)?;
-        parsed.own_kind = own_kind(alloc, self.name)?;
-        parsed.code = copied(alloc, self.code)?;
-        Ok(parsed)
+        begun(alloc, self.severity, self.name, self.code, self.message)
     }
 }
 

@@ -190,11 +190,35 @@ impl Diagnostic {
         ensures manifest { IfOk result (λ parsed. parsed.manifest ≡ None) }
         ensures counted { IfOk result (λ parsed. parsed.is_sum ≡ false) }
     {
-        Ok(Diagnostic {
+        let message = String::from_str(alloc, message)?;
+        Ok(Diagnostic::begun(alloc, severity, None, None, message))
+    }
+
+    /// A diagnostic with this kind, code and message, and nothing else yet.
+    pub(crate) fn begun(
+        alloc: Global,
+        severity: Severity,
+        own_kind: Option<OwnKind>,
+        code: Option<String>,
+        message: String,
+    ) -> Diagnostic
+        ensures severity { result.severity ≡ severity }
+        ensures own_kind { result.own_kind ≡ own_kind }
+        ensures code { result.code ≡ code }
+        ensures message { result.message ≡ message }
+        ensures spans { result.spans.items ≡ [] }
+        ensures notes { result.notes.items ≡ [] }
+        ensures helps { result.helps.items ≡ [] }
+        ensures proposals { result.proposals.items ≡ [] }
+        ensures quoted { result.quoted.items ≡ [] }
+        ensures manifest { result.manifest ≡ None }
+        ensures counted { result.is_sum ≡ false }
+    {
+        Diagnostic {
             severity,
-            own_kind: None,
-            code: None,
-            message: String::from_str(alloc, message)?,
+            own_kind,
+            code,
+            message,
             spans: Vec::new(alloc),
             notes: Vec::new(alloc),
             helps: Vec::new(alloc),
@@ -202,7 +226,7 @@ impl Diagnostic {
             quoted: Vec::new(alloc),
             manifest: None,
             is_sum: false,
-        })
+        }
     }
 
     /// The span that it is about: the first primary one, or the first.

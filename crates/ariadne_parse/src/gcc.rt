@@ -1,6 +1,6 @@
 //! Diagnostics of `gcc -fdiagnostics-format=json`: one line of text with a list of them.
 
-ghost use Rattle.std.specs.Prelude.{◌≡◌, ◌++◌, ◌<◌, [], codes, is_some, length, map, option_map, string_bytes, true, Some};
+ghost use Rattle.std.specs.Prelude.{◌≡◌, ◌++◌, ◌<◌, ◌∷◌, [], codes, is_some, length, map, option_map, string_bytes, true, Some};
 ghost use Rattle.std.specs.Prelude.{vec_len, IfOk, IfSome, OnOk};
 ghost use Rattle.std.specs.List.{list_all};
 ghost use Rattle.std.specs.Option.{option_to_list};
@@ -13,7 +13,7 @@ ghost use Rattle.ariadne_parse.specs.Gcc.{is_away as is_away_from, is_caret_of a
 ghost use Rattle.ariadne_parse.specs.Gcc.{is_column as is_same_column, is_elsewhere as is_elsewhere_than};
 ghost use Rattle.ariadne_parse.specs.Gcc.{is_label as is_said_there, is_location as is_that_location, is_part as is_part_of};
 ghost use Rattle.ariadne_parse.specs.Gcc.{location_value_spans, note_beside, noted_span as span_noted, own_location_value};
-ghost use Rattle.ariadne_parse.specs.Gcc.{says_something as something_said, with_note_said, with_noted};
+ghost use Rattle.ariadne_parse.specs.Gcc.{says_something as something_said, with_note_said, with_noted, with_parts};
 ghost use Rattle.ariadne_parse.specs.GccFixes as fixes;
 ghost use Rattle.ariadne_parse.specs.ParsedDiagnostics.{is_gcc, is_gcc_list, tells_gcc};
 ghost use Rattle.ariadne_parse.specs.Members.{gcc_end, gcc_location, gcc_location_at, gcc_span, is_gcc_more, is_gcc_note};
@@ -109,11 +109,17 @@ fn push_parsed(alloc: Global, all: &mut Vec<Diagnostic>, value: &Value) -> Resul
 {
     match all.pop() {
         Some(last) => push_behind(alloc, all, last, value),
-        None => {
-            all.push(parsed_by_item(alloc, value)?)?;
-            Ok(())
-        }
+        None => push_next(alloc, all, value),
     }
+}
+
+/// Adds the diagnostic of a value.
+fn push_next(alloc: Global, all: &mut Vec<Diagnostic>, value: &Value) -> Result<(), AllocError>
+    ensures { OnOk result (map read all.new.items
+        ≡ map read all.old.items ++ gcc_read (view value.now) ∷ []) }
+{
+    all.push(parsed_by_item(alloc, value)?)?;
+    Ok(())
 }
 
 /// Adds the last diagnostic, with a value behind it: as a part of it, or as a diagnostic more.
@@ -128,13 +134,12 @@ fn push_behind(
     ensures some { OnOk result (0 < vec_len all.new) }
 {
     if is_part(value, last.severity) {
-        push_note(alloc, &mut last, value)?;
+        let noted = push_note(alloc, &mut last, value);
         all.push(last)?;
-        return Ok(());
+        return noted;
     }
     all.push(last)?;
-    all.push(parsed_by_item(alloc, value)?)?;
-    Ok(())
+    push_next(alloc, all, value)
 }
 
 /// Whether a value is a part of the diagnostic before it, which has this severity.
@@ -164,19 +169,26 @@ fn parsed_by_item(alloc: Global, value: &Value) -> Result<Diagnostic, AllocError
     ensures { IfOk result (λ parsed. read parsed ≡ gcc_read (view value.now)) }
 {
     let mut parsed = bare(alloc, value)?;
+    push_parts(alloc, &mut parsed, value).and(Ok(parsed))
+}
+
+/// Adds its locations and events, and what its fix-its change.
+fn push_parts(alloc: Global, parsed: &mut Diagnostic, value: &Value) -> Result<(), AllocError>
+    ensures { OnOk result (read parsed.new ≡ with_parts (read parsed.old) (view value.now)) }
+{
     push_location_values(alloc, &mut parsed.spans, items(value, "locations"))?;
-    push_events(alloc, &mut parsed, items(value, "path"))?;
-    push_fixits(alloc, &mut parsed, items(value, "fixits"))?;
-    Ok(parsed)
+    push_events(alloc, parsed, items(value, "path"))?;
+    push_fixits(alloc, parsed, items(value, "fixits"))
 }
 
 /// Its kind, option and message alone.
 fn bare(alloc: Global, value: &Value) -> Result<Diagnostic, AllocError>
     ensures { IfOk result (λ parsed. read parsed ≡ gcc_bare (view value.now)) }
 {
-    let mut parsed = Diagnostic::new(alloc, severity_of(value, "kind"), words(value, "message"))?;
-    parsed.code = copied_text(alloc, value, "option")?;
-    Ok(parsed)
+    let severity = severity_of(value, "kind");
+    let code = copied_text(alloc, value, "option")?;
+    let message = String::from_str(alloc, words(value, "message"))?;
+    Ok(Diagnostic::begun(alloc, severity, None, code, message))
 }
 
 /// Says in helps what fix-its change, and adds what they propose.

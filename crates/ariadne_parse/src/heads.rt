@@ -1,15 +1,15 @@
 //! The diagnostic of a line of text, and its spans.
 
-ghost use Rattle.std.specs.Prelude.{◌≡◌, ◌++◌, map, option_map, string_bytes, IfOk, OnOk};
+ghost use Rattle.std.specs.Prelude.{◌≡◌, ◌++◌, ◌∷◌, map, option_map, string_bytes, IfOk, OnOk};
 ghost use Rattle.std.specs.Prelude.{None};
 ghost use Rattle.ariadne_parse.specs.Spans.{counted_span as span_counted, is_same_location as is_of_same_location, named, seen, span_of};
 ghost use Rattle.ariadne_parse.specs.ParsedDiagnostics.{is_own_range};
 ghost use Rattle.ariadne_parse.specs.ParsedDiagnostics.{other_spans, own_range_of, own_span_of};
-ghost use Rattle.ariadne_parse.specs.ParsedDiagnostics.{IsOfHead};
+ghost use Rattle.ariadne_parse.specs.ParsedDiagnostics.{IsBegun, IsOfHead};
 ghost use Rattle.ariadne_parse.specs.ParsedLines.{head_parsed};
 
 use crate::counting::Counting;
-use crate::diagnostic::{Diagnostic, End, Location, Look, OwnKind, Span};
+use crate::diagnostic::{Diagnostic, End, Location, Look, OwnKind, Severity, Span};
 use crate::lines::ParsedLine;
 use crate::locations::{RANGES, is_among, range};
 use crate::unit::Unit;
@@ -23,16 +23,44 @@ pub(crate) fn parsed_by_line(
 ) -> Result<Diagnostic, AllocError>
     ensures { IfOk result (λ parsed. IsOfHead counting (head_parsed it.now) parsed) }
 {
-    let mut parsed = Diagnostic::new(alloc, it.kind.severity, it.message)?;
-    parsed.own_kind = own_kind(alloc, it.kind.name)?;
-    parsed.code = copied(alloc, it.kind.code)?;
-    parsed.spans.push(own_span(alloc, it, counting)?)?;
-    push_ranges(alloc, &mut parsed.spans, it, counting)?;
-    Ok(parsed)
+    let kind = &it.kind;
+    let mut parsed = begun(alloc, kind.severity, kind.name, kind.code, it.message)?;
+    push_spans(alloc, &mut parsed.spans, it, counting).and(Ok(parsed))
+}
+
+/// A diagnostic of this severity, name, code and message, which has nothing else yet.
+pub(crate) fn begun(
+    alloc: Global,
+    severity: Severity,
+    name: Option<&str>,
+    code: Option<&str>,
+    message: &str,
+) -> Result<Diagnostic, AllocError>
+    ensures { IfOk result (IsBegun severity (option_map (λ name. name.now) name.entry)
+        (option_map (λ code. code.now) code.entry) message.now) }
+{
+    let own_kind = own_kind(alloc, name)?;
+    let code = copied(alloc, code)?;
+    let message = String::from_str(alloc, message)?;
+    Ok(Diagnostic::begun(alloc, severity, own_kind, code, message))
+}
+
+/// Adds the spans of a line: its own, and behind it those of its other ranges.
+fn push_spans(
+    alloc: Global,
+    spans: &mut Vec<Span>,
+    it: &ParsedLine<'_>,
+    counting: Counting,
+) -> Result<(), AllocError>
+    ensures { let head = head_parsed it.now in OnOk result (map seen spans.new.items
+        ≡ map seen spans.old.items ++ own_span_of head counting ∷ other_spans head counting) }
+{
+    spans.push(own_span(alloc, it, counting)?)?;
+    push_ranges(alloc, spans, it, counting)
 }
 
 /// A kind of this name, in the colour of its severity, if there is a name.
-pub(crate) fn own_kind(alloc: Global, name: Option<&str>) -> Result<Option<OwnKind>, AllocError>
+fn own_kind(alloc: Global, name: Option<&str>) -> Result<Option<OwnKind>, AllocError>
     ensures { IfOk result (λ kind. option_map named kind ≡ option_map (λ name. (name.now, None)) name.entry) }
 {
     match copied(alloc, name)? {
@@ -42,7 +70,7 @@ pub(crate) fn own_kind(alloc: Global, name: Option<&str>) -> Result<Option<OwnKi
 }
 
 /// A copy of a text, if there is one.
-pub(crate) fn copied(alloc: Global, text: Option<&str>) -> Result<Option<String>, AllocError>
+fn copied(alloc: Global, text: Option<&str>) -> Result<Option<String>, AllocError>
     ensures { IfOk result (λ copy. option_map string_bytes copy ≡ option_map (λ text. text.now)
         text.entry) }
 {

@@ -7,7 +7,7 @@ ghost use Rattle.ariadne_parse.specs.Members.{all_items};
 ghost use Rattle.ariadne_parse.specs.Spans.{named, seen};
 ghost use Rattle.ariadne_parse.specs.Reports.{has_primary as has_primary_label, is_primary as is_primary_label};
 ghost use Rattle.ariadne_parse.specs.Reports.{label_location, label_span as span_of_label};
-ghost use Rattle.ariadne_parse.specs.Reports.{look_at, report_kind, report_unit, spans_in, texts_in, whole_at};
+ghost use Rattle.ariadne_parse.specs.Reports.{look_at, report_kind, report_spans, report_unit, spans_in, texts_at, texts_in, whole_at};
 ghost use Rattle.ariadne_parse.specs.Reports.{IsBegunByReport, IsOfReport};
 ghost use Rattle.ariadne_parse.specs.ParsedDiagnostics.{is_label as is_of_label, is_report as is_of_report};
 
@@ -79,6 +79,31 @@ pub(crate) fn parsed_by_report(alloc: Global, value: &Value) -> Result<Diagnosti
     ensures { IfOk result (λ parsed. IsOfReport (view value.now) parsed) }
 {
     let mut parsed = begun(alloc, value)?;
+    push_parts(alloc, &mut parsed, value).and(Ok(parsed))
+}
+
+/// Its kind, code and message alone.
+fn begun(alloc: Global, value: &Value) -> Result<Diagnostic, AllocError>
+    ensures { IfOk result (IsBegunByReport (view value.now)) }
+{
+    let severity = severity(value, "kind");
+    let own_kind = own_kind(alloc, value)?;
+    let code = copied_text(alloc, value, "code")?;
+    let message = String::from_str(alloc, words(value, "message"))?;
+    Ok(Diagnostic::begun(alloc, severity, own_kind, code, message))
+}
+
+/// Adds its labels as spans, its notes and its helps.
+fn push_parts(alloc: Global, parsed: &mut Diagnostic, value: &Value) -> Result<(), AllocError>
+    ensures spans { OnOk result (map seen parsed.new.spans.items
+        ≡ map seen parsed.old.spans.items ++ report_spans (view value.now)) }
+    ensures notes { OnOk result (map string_bytes parsed.new.notes.items
+        ≡ map string_bytes parsed.old.notes.items ++ texts_at (codes "notes") (view value.now)) }
+    ensures helps { OnOk result (map string_bytes parsed.new.helps.items
+        ≡ map string_bytes parsed.old.helps.items ++ texts_at (codes "helps") (view value.now)) }
+    ensures others { OnOk result (parsed.new ≡ record parsed.old
+        { spans = parsed.new.spans; notes = parsed.new.notes; helps = parsed.new.helps }) }
+{
     push_labels(
         alloc,
         &mut parsed.spans,
@@ -86,18 +111,7 @@ pub(crate) fn parsed_by_report(alloc: Global, value: &Value) -> Result<Diagnosti
         unit_of(value),
     )?;
     push_texts(alloc, &mut parsed.notes, items(value, "notes"))?;
-    push_texts(alloc, &mut parsed.helps, items(value, "helps"))?;
-    Ok(parsed)
-}
-
-/// Its kind, code and message alone.
-fn begun(alloc: Global, value: &Value) -> Result<Diagnostic, AllocError>
-    ensures { IfOk result (IsBegunByReport (view value.now)) }
-{
-    let mut parsed = Diagnostic::new(alloc, severity(value, "kind"), words(value, "message"))?;
-    parsed.own_kind = own_kind(alloc, value)?;
-    parsed.code = copied_text(alloc, value, "code")?;
-    Ok(parsed)
+    push_texts(alloc, &mut parsed.helps, items(value, "helps"))
 }
 
 /// The kind of its own that a report has, if it has one.
