@@ -10,17 +10,17 @@ use Rattle.ariadne_parse.specs.declared.diagnostic.Diagnostic.{Diagnostic}
 use Rattle.ariadne_parse.specs.declared.sent.Sent.{Sent}
 use Rattle.ariadne_parse.specs.declared.telling.Answer.{Answer}
 use Rattle.ariadne_parse.specs.declared.telling.Answer.TheVariants as answer
-use Rattle.ariadne_show.specs.Finding.{is_first_held, IsOpened}
+use Rattle.ariadne_show.specs.Finding.{IsHeldOpened, IsUnheldOpened}
 use Rattle.ariadne_show.specs.WaitingLines.{added_row, bytes_in, IsRoleOf}
 use Rattle.ariadne_show.specs.Known.{is_waited_for, IsAboutNone, IsGivenOut, IsMoreInFront, IsNoMore}
 use Rattle.ariadne_show.specs.Known.{IsNoRowInFront, IsPlacedBy, MayNotGoOn, SpansNone, Waits, WaitsNot}
 use Rattle.ariadne_show.specs.InputLines.{IsLineOf}
 use Rattle.ariadne_show.specs.RunOutput.{dropped, head as told_head, note as told_note, of_no_form, of_text, whole, AreAllShown}
 use Rattle.ariadne_show.specs.RunOutput.{IsLineShown}
-use Rattle.ariadne_show.specs.RunOutput.{At, IsAnswered, IsBegunBehind, IsFinished, IsFollowed, IsHeadShown}
+use Rattle.ariadne_show.specs.RunOutput.{At, HaveBothPassed, IsAnswered, IsBegunBehind, IsFinished, IsFollowed, IsHeadShown, IsHeldNoteShown}
 use Rattle.ariadne_show.specs.RunOutput.{IsLinePassed, IsNoteAddedTo, IsNoteShown, IsOtherShown, IsPlacedShown, IsReadShown}
 use Rattle.ariadne_show.specs.RunOutput.{IsTextShown, all_passed, began, began_placed, goes_on, head_passed, names_span}
-use Rattle.ariadne_show.specs.RunOutput.{no_row, note_added, note_began, note_passed, other, passed, tally, waits_in_front}
+use Rattle.ariadne_show.specs.RunOutput.{no_row, note_added, note_began, note_passed, note_shown, other, passed, tally, waits_in_front}
 use Rattle.ariadne_show.specs.Writing.{HasPassed, HavePassed, Out}
 use Rattle.ariadne_show.specs.DroppedTallies.{is_tally_behind}
 use Rattle.ariadne_show.specs.declared.finder.Finder.{Finder}
@@ -31,77 +31,85 @@ use Rattle.ariadne_show.specs.declared.options.Options.{Options}
 -- ---- heads
 
 pub head_began_if : {T E : Type 0} (r : Result T E) (options : Options) (line : Line) (parsed opened : Diagnostic) (known : Known)
-    (finder : Finder) (a : Out) (last : At) (held : Bool) → IsOpened parsed opened known.finder finder
-    → held ≡ is_first_held finder opened → held ≡ true
+    (finder : Finder) (a : Out) (last : At) → IsHeldOpened parsed known.finder finder opened
     → OnOk r (IsBegunBehind options line.text.now opened (record { known = record known { finder = finder }; out = a }) last)
     → OnOk r (IsHeadShown options line parsed (record { known = known; out = a }) last)
-head_began_if (Ok x) options line parsed opened known finder a last held files is so it =
-    began opened finder files (sym is ∙ so) it
-head_began_if (Err e) options line parsed opened known finder a last held files is so it = tt
+head_began_if (Ok x) options line parsed opened known finder a last held it = began opened finder held it
+head_began_if (Err e) options line parsed opened known finder a last held it = tt
 
-pub head_passed_if : {T E : Type 0} (r : Result T E) (options : Options) (line : Line) (parsed opened : Diagnostic) (known : Known)
-    (finder : Finder) (a : Out) (last : At) (held : Bool) → IsOpened parsed opened known.finder finder
-    → held ≡ is_first_held finder opened → held ≡ false
+pub head_passed_if : {T E : Type 0} (r : Result T E) (options : Options) (line : Line) (parsed : Diagnostic) (known : Known)
+    (finder : Finder) (a : Out) (last : At) → IsUnheldOpened parsed known.finder finder
     → OnOk r (IsLinePassed options line.bytes.now (record { known = record known { finder = finder }; out = a }) last)
     → OnOk r (IsHeadShown options line parsed (record { known = known; out = a }) last)
-head_passed_if (Ok x) options line parsed opened known finder a last held files is not_so it =
-    head_passed opened finder files (sym is ∙ not_so) it
-head_passed_if (Err e) options line parsed opened known finder a last held files is not_so it = tt
+head_passed_if (Ok x) options line parsed known finder a last unheld it = head_passed finder unheld it
+head_passed_if (Err e) options line parsed known finder a last unheld it = tt
 
 -- those that waited
 pub placed_began_if : {T E : Type 0} (r : Result T E) (options : Options) (line : Line) (head : PlacedHead) (opened : Diagnostic)
-    (known : Known) (finder : Finder) (a : Out) (last : At) (held : Bool) → IsOpened head.parsed opened known.finder finder
-    → held ≡ is_first_held finder opened → held ≡ true
+    (known : Known) (finder : Finder) (a : Out) (last : At) → IsHeldOpened head.parsed known.finder finder opened
     → OnOk r (IsBegunBehind options line.text.now opened (record { known = record known { finder = finder }; out = a }) last)
     → OnOk r (IsPlacedShown options line head (record { known = known; out = a }) last)
-placed_began_if (Ok x) options line head opened known finder a last held files is so it =
-    began_placed opened finder files (sym is ∙ so) it
-placed_began_if (Err e) options line head opened known finder a last held files is so it = tt
+placed_began_if (Ok x) options line head opened known finder a last held it = began_placed opened finder held it
+placed_began_if (Err e) options line head opened known finder a last held it = tt
 
-pub all_passed_if : {T E : Type 0} (r : Result T E) (options : Options) (line : Line) (head : PlacedHead) (opened : Diagnostic)
-    (known : Known) (finder : Finder) (a : Out) (finished between last : Known) (b c d : Out) (held : Bool) (lines : List (Vec ℕ Global))
-    → IsOpened head.parsed opened known.finder finder
-    → held ≡ is_first_held finder opened → held ≡ false → lines ≡ head.lines.items
-    → IsFinished options (record { known = record known { finder = finder }; out = a }) (record { known = finished; out = b })
-    → between ≡ finished → HavePassed options (bytes_in lines) b c
-    → last ≡ between → OnOk r (HasPassed options line.bytes.now c d)
-    → OnOk r (IsPlacedShown options line head (record { known = known; out = a }) (record { known = last; out = d }))
-all_passed_if (Ok x) options line head opened known finder a finished between last b c d held lines files is not_so same before kept first kept_too second =
-    all_passed opened finder (record { known = finished; out = b }) c files (sym is ∙ not_so) before
-    (subst (λ (l : List (Vec ℕ Global)). HavePassed options (bytes_in l) b c) same first) second (kept_too ∙ kept)
-all_passed_if (Err e) options line head opened known finder a finished between last b c d held lines files is not_so same before kept first kept_too second =
-    tt
+pub all_passed_if : {T E : Type 0} (r : Result T E) (options : Options) (line : Line) (head : PlacedHead) (known : Known)
+    (finder : Finder) (a : Out) (last : At) (lines : List (Vec ℕ Global)) → IsUnheldOpened head.parsed known.finder finder
+    → lines ≡ head.lines.items
+    → OnOk r (HaveBothPassed options (bytes_in lines) line.bytes.now (record { known = record known { finder = finder }; out = a }) last)
+    → OnOk r (IsPlacedShown options line head (record { known = known; out = a }) last)
+all_passed_if (Ok x) options line head known finder a last lines unheld same gone =
+    all_passed finder unheld (subst (λ (l : List (Vec ℕ Global)). HaveBothPassed options (bytes_in l) line.bytes.now
+    (record { known = record known { finder = finder }; out = a }) last) same gone)
+all_passed_if (Err e) options line head known finder a last lines unheld same gone = tt
+
+-- both passed, after Ok
+pub both_passed_if : {T E : Type 0} (r : Result T E) (options : Options) (lines : List (List ℕ)) (line : List ℕ) (first : At)
+    (finished between last : Known) (b c d : Out) → IsFinished options first (record { known = finished; out = b })
+    → between ≡ finished → HavePassed options lines b c → last ≡ between → OnOk r (HasPassed options line c d)
+    → OnOk r (HaveBothPassed options lines line first (record { known = last; out = d }))
+both_passed_if (Ok x) options lines line first finished between last b c d before kept all kept_too one = record {
+  finished = record { known = finished; out = b };
+  before = before;
+  between = c;
+  lines_passed = all;
+  line_passed = one;
+  known = kept_too ∙ kept;
+}
+both_passed_if (Err e) options lines line first finished between last b c d before kept all kept_too one = tt
 
 -- ---- notes
 
-pub note_added_if : {T E : Type 0} (r : Result T E) (options : Options) (line : Line) (note opened : Diagnostic) (known out : Known)
-    (finder : Finder) (a : Out) (last : At) (block : Block) (held : Bool) → IsOpened note opened known.finder finder
-    → held ≡ is_first_held finder opened → held ≡ true → IsGivenOut opened (record known { finder = finder }) out block
-    → OnOk r (IsNoteAddedTo options block opened (record { known = out; out = a }) last)
-    → OnOk r (IsNoteShown options line note (record { known = known; out = a }) last)
-note_added_if (Ok x) options line note opened known out finder a last block held files is so given it =
-    note_added opened finder block files (sym is ∙ so) given.held given.about
-    (subst (λ (k : Known). IsNoteAddedTo options block opened (record { known = k; out = a }) last) given.known it)
-note_added_if (Err e) options line note opened known out finder a last block held files is so given it = tt
+pub note_added_if : {T E : Type 0} (r : Result T E) (options : Options) (line : Line) (note : Diagnostic) (known out : Known)
+    (a : Out) (last : At) (block : Block) → IsGivenOut note known out block
+    → OnOk r (IsNoteAddedTo options block note (record { known = out; out = a }) last)
+    → OnOk r (IsHeldNoteShown options line note (record { known = known; out = a }) last)
+note_added_if (Ok x) options line note known out a last block given it =
+    note_added block given.held given.about
+    (subst (λ (k : Known). IsNoteAddedTo options block note (record { known = k; out = a }) last) given.known it)
+note_added_if (Err e) options line note known out a last block given it = tt
 
-pub note_began_if : {T E : Type 0} (r : Result T E) (options : Options) (line : Line) (note opened : Diagnostic) (known out : Known)
-    (finder : Finder) (a : Out) (last : At) (held : Bool) → IsOpened note opened known.finder finder
-    → held ≡ is_first_held finder opened → held ≡ true → IsAboutNone opened (record known { finder = finder }) out
-    → OnOk r (IsBegunBehind options line.text.now opened (record { known = out; out = a }) last)
-    → OnOk r (IsNoteShown options line note (record { known = known; out = a }) last)
-note_began_if (Ok x) options line note opened known out finder a last held files is so none it =
-    note_began opened finder files (sym is ∙ so) none.none
-    (subst (λ (k : Known). IsBegunBehind options line.text.now opened (record { known = k; out = a }) last) none.same it)
-note_began_if (Err e) options line note opened known out finder a last held files is so none it = tt
+pub note_began_if : {T E : Type 0} (r : Result T E) (options : Options) (line : Line) (note : Diagnostic) (known out : Known)
+    (a : Out) (last : At) → IsAboutNone note known out
+    → OnOk r (IsBegunBehind options line.text.now note (record { known = out; out = a }) last)
+    → OnOk r (IsHeldNoteShown options line note (record { known = known; out = a }) last)
+note_began_if (Ok x) options line note known out a last none it =
+    note_began none.none
+    (subst (λ (k : Known). IsBegunBehind options line.text.now note (record { known = k; out = a }) last) none.same it)
+note_began_if (Err e) options line note known out a last none it = tt
 
-pub note_passed_if : {T E : Type 0} (r : Result T E) (options : Options) (line : Line) (note opened : Diagnostic) (known : Known)
-    (finder : Finder) (a : Out) (last : At) (held : Bool) → IsOpened note opened known.finder finder
-    → held ≡ is_first_held finder opened → held ≡ false
+pub note_shown_if : {T E : Type 0} (r : Result T E) (options : Options) (line : Line) (note opened : Diagnostic) (known : Known)
+    (finder : Finder) (a : Out) (last : At) → IsHeldOpened note known.finder finder opened
+    → OnOk r (IsHeldNoteShown options line opened (record { known = record known { finder = finder }; out = a }) last)
+    → OnOk r (IsNoteShown options line note (record { known = known; out = a }) last)
+note_shown_if (Ok x) options line note opened known finder a last held it = note_shown opened finder held it
+note_shown_if (Err e) options line note opened known finder a last held it = tt
+
+pub note_passed_if : {T E : Type 0} (r : Result T E) (options : Options) (line : Line) (note : Diagnostic) (known : Known)
+    (finder : Finder) (a : Out) (last : At) → IsUnheldOpened note known.finder finder
     → OnOk r (IsLinePassed options line.bytes.now (record { known = record known { finder = finder }; out = a }) last)
     → OnOk r (IsNoteShown options line note (record { known = known; out = a }) last)
-note_passed_if (Ok x) options line note opened known finder a last held files is not_so it =
-    note_passed opened finder files (sym is ∙ not_so) it
-note_passed_if (Err e) options line note opened known finder a last held files is not_so it = tt
+note_passed_if (Ok x) options line note known finder a last unheld it = note_passed finder unheld it
+note_passed_if (Err e) options line note known finder a last unheld it = tt
 
 -- ---- other lines
 

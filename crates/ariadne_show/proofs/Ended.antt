@@ -1,6 +1,7 @@
 -- What is held is written, and lines pass behind it.
 use Rattle.std.proofs.Common.{◌≡◌, ◌∙◌, [], ℕ, List, Option, Some, None, ap, subst, sym, refl}
-use Rattle.std.specs.Prelude.{Result, Ok, Err, OnOk, Vec}
+use Rattle.std.specs.Prelude.{Result, Ok, Err, IfOk, OnOk, Vec}
+use Rattle.std.specs.Result.{result_and}
 use Rattle.std.specs.declared.alloc.Global.{Global}
 use Rattle.ariadne_blocks.specs.Blocks.{lines_behind, parsed_of}
 use Rattle.ariadne_blocks.specs.declared.block.Block.{Block}
@@ -9,7 +10,7 @@ use Rattle.ariadne_show.specs.Finding.{AreChangedFound, IsOpened}
 use Rattle.ariadne_show.specs.WaitingLines.{passing_of}
 use Rattle.ariadne_show.specs.Known.{AreMarksSettled}
 use Rattle.ariadne_show.specs.RunOutput.{At, AreAllShown, AreShown, HasNoRepeats, IsBlockFinished, IsBlockWritten, IsFinished}
-use Rattle.ariadne_show.specs.RunOutput.{IsLinePassed, IsSettledShown, IsWholeShown}
+use Rattle.ariadne_show.specs.RunOutput.{IsLinePassed, IsReadWritten, IsSettledShown, IsWholeShown}
 use Rattle.ariadne_show.specs.RunOutput.{block_written, no_block}
 use Rattle.ariadne_show.specs.Writing.{HasPassed, HavePassed, IsShownOnce, Out}
 use Rattle.ariadne_show.specs.declared.finder.Finder.{Finder}
@@ -18,22 +19,29 @@ use Rattle.ariadne_show.specs.declared.known.Known.{Known}
 use Rattle.ariadne_show.specs.declared.options.Options.{Options}
 
 -- a diagnostic was written, after Ok
-pub written_if : {T E : Type 0} (r : Result T E) (options : Options) (block : Block) (parsed : Diagnostic) (first marked last : Known)
-    (whole : Diagnostic) (a b c : Out) (bytes : List (List ℕ)) → AreMarksSettled whole parsed first marked
-    → whole ≡ parsed_of block
+pub read_written_if : {T E : Type 0} (r : Result T E) (options : Options) (read parsed : Diagnostic) (lines : List (List ℕ))
+    (first marked last : Known) (a b c : Out) → AreMarksSettled read parsed first marked
     → IsSettledShown options parsed (record { known = marked; out = a }) (record { known = last; out = b })
-    → bytes ≡ lines_behind block → OnOk r (HavePassed options bytes b c)
-    → OnOk r (IsBlockWritten options block (record { known = first; out = a }) (record { known = last; out = c }))
-written_if (Ok x) options block parsed first marked last whole a b c bytes settled is once same behind = record {
+    → OnOk r (HavePassed options lines b c)
+    → OnOk r (IsReadWritten options read lines (record { known = first; out = a }) (record { known = last; out = c }))
+read_written_if (Ok x) options read parsed lines first marked last a b c settled once behind = record {
   parsed = parsed;
   marked = marked;
-  settled = subst (λ (d : Diagnostic). AreMarksSettled d parsed first marked) is settled;
+  settled = settled;
   shown = record { known = last; out = b };
   once = once;
-  behind = subst (λ (lines : List (List ℕ)). HavePassed options lines b c) same behind;
+  behind = behind;
   known = refl;
 }
-written_if (Err e) options block parsed first marked last whole a b c bytes settled is once same behind = tt
+read_written_if (Err e) options read parsed lines first marked last a b c settled once behind = tt
+
+-- one that was held
+pub written_if : {T E : Type 0} (r : Result T E) (options : Options) (block : Block) (read : Diagnostic) (lines : List (List ℕ))
+    (first last : At) → read ≡ parsed_of block → lines ≡ lines_behind block
+    → OnOk r (IsReadWritten options read lines first last) → OnOk r (IsBlockWritten options block first last)
+written_if r options block read lines first last is same =
+    subst (λ (d : Diagnostic). OnOk r (IsReadWritten options read lines first last) → OnOk r (IsReadWritten options d (lines_behind block) first last)) is
+    (subst (λ (l : List (List ℕ)). OnOk r (IsReadWritten options read lines first last) → OnOk r (IsReadWritten options read l first last)) same (λ it. it))
 
 -- the one in front was, if there is one
 pub finished_some_if : {T E : Type 0} (r : Result T E) (options : Options) (known : Known) (a : Out) (taken : Option Block)
@@ -99,6 +107,12 @@ settled_shown_if (Ok x) options parsed found known last finder a b changed kept 
     subst (λ (k : Known). IsSettledShown options parsed (record { known = known; out = a }) (record { known = k; out = b }))
     (sym kept) (record { found = found; changed = changed; once = it; known = refl })
 settled_shown_if (Err e) options parsed found known last finder a b changed kept it = tt
+
+-- what a call leaves on Ok holds of what is returned then
+pub on_ok_and : {A B E P : Type 0} (r : Result A E) {s : Result B E} {x : B} (Q : B → Type 0) → s ≡ result_and r (Ok x)
+    → (P → Q x) → OnOk r P → IfOk s Q
+on_ok_and (Ok v) Q is told p = subst (λ t. IfOk t Q) (sym is) (told p)
+on_ok_and (Err e) Q is told p = subst (λ t. IfOk t Q) (sym is) tt
 
 -- all of several
 pub all_shown_if : {T E : Type 0} (r : Result T E) (options : Options) (all : List Diagnostic) (first finished last : At)

@@ -1,13 +1,15 @@
 -- Lines that waited go to the diagnostic behind them, or pass.
-use Rattle.std.proofs.Common.{◌≡◌, ◌∙◌, [], ℕ, List, ap, subst, sym, refl}
+use Rattle.std.proofs.Common.{◌≡◌, ◌∙◌, [], ℕ, List, Option, Some, ap, subst, sym, refl}
 use Rattle.std.specs.Prelude.{false, Result, Ok, Err, OnOk, Vec}
 use Rattle.std.specs.declared.alloc.Global.{Global}
+use Rattle.ariadne_blocks.specs.Blocks.{IsBegun}
 use Rattle.ariadne_blocks.specs.declared.block.Block.{Block}
+use Rattle.ariadne_parse.specs.declared.diagnostic.Diagnostic.{Diagnostic}
 use Rattle.ariadne_parse.specs.declared.diagnostic.Span.{Span}
-use Rattle.ariadne_show.specs.Finding.{is_held, IsSpanSettled}
+use Rattle.ariadne_show.specs.Finding.{caret_at, is_held, IsSpanSettled}
 use Rattle.ariadne_show.specs.WaitingLines.{bytes_in}
 use Rattle.ariadne_show.specs.RunOutput.{giving, tells_span, At, AreGiven, Giving, HasLineGone}
-use Rattle.ariadne_show.specs.RunOutput.{IsFrontGiven, IsSpanGone, passed_placeless, passed_unread, told_span}
+use Rattle.ariadne_show.specs.RunOutput.{IsBegunBehind, IsBlockFinished, IsFrontGiven, IsNoteAddedTo, IsNoteGiven, IsSpanGone, passed_placeless, passed_unread, told_span}
 use Rattle.ariadne_show.specs.Writing.{HavePassed, Out}
 use Rattle.ariadne_show.specs.declared.finder.Finder.{Finder}
 use Rattle.ariadne_show.specs.declared.front.Role.TheVariants as role
@@ -60,3 +62,35 @@ front_given options first block last given lines front same all none known = rec
   none = ap (λ (k : Known). k.front.items) known ∙ none;
   known = known ∙ sym (ap (λ (k : Known). record first.known { finder = last.known.finder; front = k.front }) known);
 }
+
+-- ---- a diagnostic that has them is held
+
+pub begun_if : {T E : Type 0} (r : Result T E) (options : Options) (head : List ℕ) (parsed : Diagnostic) (first : At)
+    (finished given last : Known) (a b : Out) (caret : Option ℕ) (begun block : Block)
+    → IsBlockFinished options first (record { known = finished; out = a }) → caret ≡ caret_at finished.finder parsed
+    → IsBegun parsed head caret begun → last ≡ record given { block = Some block }
+    → OnOk r (IsFrontGiven options (record { known = finished; out = a }) begun (record { known = given; out = b }) block)
+    → OnOk r (IsBegunBehind options head parsed first (record { known = last; out = b }))
+begun_if (Ok x) options head parsed first finished given last a b caret begun block before points it held front = record {
+  finished = record { known = finished; out = a };
+  before = before;
+  begun = begun;
+  head_parsed = subst (λ (c : Option ℕ). IsBegun parsed head c begun) points it;
+  given = record { known = given; out = b };
+  block = block;
+  front = front;
+  held = ap (λ (k : Known). record { known = k; out = b }) held;
+}
+begun_if (Err e) options head parsed first finished given last a b caret begun block before points it held front = tt
+
+pub note_held_if : {T E : Type 0} (r : Result T E) (options : Options) (before noted : Block) (note : Diagnostic) (first : At)
+    (given last : Known) (b : Out) → last ≡ record given { block = Some noted }
+    → OnOk r (IsNoteGiven options note first before (record { known = given; out = b }) noted)
+    → OnOk r (IsNoteAddedTo options before note first (record { known = last; out = b }))
+note_held_if (Ok x) options before noted note first given last b held it = record {
+  given = record { known = given; out = b };
+  noted = noted;
+  note_given = it;
+  held = ap (λ (k : Known). record { known = k; out = b }) held;
+}
+note_held_if (Err e) options before noted note first given last b held it = tt

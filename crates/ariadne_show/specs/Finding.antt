@@ -1,5 +1,5 @@
 -- What a run finds of the files that diagnostics name: where it looks for them, and what it has read.
-use Rattle.std.specs.Prelude.{ℕ, ◌≡◌, ◌↔◌, Bool, false, List, [], ◌∷◌, Option, None, is_some, option_and_then, option_map}
+use Rattle.std.specs.Prelude.{ℕ, ◌≡◌, ◌↔◌, Bool, true, false, List, [], ◌∷◌, Option, None, Some, is_some, option_and_then, option_map}
 use Rattle.std.specs.Prelude.{slice_get, IsTrue, string_bytes}
 use Rattle.ariadne_blocks.specs.Files.{File}
 use Rattle.ariadne_parse.specs.declared.unit.Unit.TheVariants.{Byte}
@@ -71,6 +71,21 @@ pub record IsOpened (parsed opened : Diagnostic) (first last : Finder) : Type 0 
   pub spans : AreOpened search parsed.quoted.items parsed.spans.items opened.spans.items first.shelf last.shelf
   pub others : opened ≡ record parsed { spans = opened.spans }
   pub finder : last ≡ record first { shelf = last.shelf }
+
+-- and that of its first span is held
+pub record IsHeldOpened (parsed : Diagnostic) (first last : Finder) (opened : Diagnostic) : Type 0 where
+  pub files : IsOpened parsed opened first last
+  pub held : is_first_held last opened ≡ true
+
+-- or it isn't
+pub record IsUnheldOpened (parsed : Diagnostic) (first last : Finder) : Type 0 where
+  pub opened : Diagnostic
+  pub files : IsOpened parsed opened first last
+  pub unheld : is_first_held last opened ≡ false
+
+abbrev pub IsOpenedIfHeld : Diagnostic → Finder → Finder → Option Diagnostic → Type 0
+IsOpenedIfHeld parsed first last None = IsUnheldOpened parsed first last
+IsOpenedIfHeld parsed first last (Some opened) = IsHeldOpened parsed first last opened
 
 -- those that it proposes to change were: its proposals have the paths at which they were found
 pub record AreChangedFound (parsed found : Diagnostic) (first last : Finder) : Type 0 where

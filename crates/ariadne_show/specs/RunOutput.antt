@@ -26,7 +26,7 @@ use Rattle.ariadne_parse.specs.declared.diagnostic.Span.{Span}
 use Rattle.ariadne_parse.specs.declared.sent.Sent.{Sent}
 use Rattle.ariadne_parse.specs.declared.telling.Answer.{Answer}
 use Rattle.ariadne_parse.specs.declared.telling.Answer.TheVariants as answer
-use Rattle.ariadne_show.specs.Finding.{AreChangedFound, caret_at, is_first_held, is_held, IsOpened, IsSpanSettled}
+use Rattle.ariadne_show.specs.Finding.{AreChangedFound, caret_at, is_held, IsHeldOpened, IsOpened, IsSpanSettled, IsUnheldOpened}
 use Rattle.ariadne_show.specs.WaitingLines.{bytes_in, lines_of, passing_of}
 use Rattle.ariadne_show.specs.Known.{is_note_of, AreMarksSettled, IsMoreInFront, IsNew, IsNoRowInFront, IsPlacedBy}
 use Rattle.ariadne_show.specs.Known.{IsRowInFront, MayNotGoOn, SpansNone, Waits, WaitsNot}
@@ -74,15 +74,19 @@ pub record IsSettledShown (options : Options) (parsed : Diagnostic) (first last 
 
 -- ---- the end of a diagnostic of lines of text
 
--- it was shown, and the lines passed that turned out to be none of it
-pub record IsBlockWritten (options : Options) (block : Block) (first last : At) : Type 0 where
+-- one of which all lines were read was shown, and lines behind it passed
+pub record IsReadWritten (options : Options) (read : Diagnostic) (lines : List (List ℕ)) (first last : At) : Type 0 where
   pub parsed : Diagnostic
   pub marked : Known
-  pub settled : AreMarksSettled (parsed_of block) parsed first.known marked
+  pub settled : AreMarksSettled read parsed first.known marked
   pub shown : At
   pub once : IsSettledShown options parsed (record first { known = marked }) shown
-  pub behind : HavePassed options (lines_behind block) shown.out last.out
+  pub behind : HavePassed options lines shown.out last.out
   pub known : last.known ≡ shown.known
+
+-- so was one that was held, and the lines passed that turned out to be none of it
+abbrev pub IsBlockWritten : Options → Block → At → At → Type 0
+IsBlockWritten options block first last = IsReadWritten options (parsed_of block) (lines_behind block) first last
 
 -- a run that holds none
 abbrev pub without_block : At → At
@@ -200,55 +204,61 @@ pub record IsBegunBehind (options : Options) (head : List ℕ) (parsed : Diagnos
   pub front : IsFrontGiven options finished begun given block
   pub held : last ≡ with_block given block
 
--- a note was given to a diagnostic, with the spans of the lines that waited, and that is held
-pub record IsNoteAddedTo (options : Options) (before : Block) (note : Diagnostic) (first last : At) : Type 0 where
-  pub given : At
+-- a note was given to a diagnostic, behind the spans of the lines that waited
+pub record IsNoteGiven (options : Options) (note : Diagnostic) (first : At) (before : Block) (given : At) (noted : Block)
+    : Type 0 where
   pub block : Block
   pub front : IsFrontGiven options first before given block
-  pub noted : Block
   pub note_taken : IsNoted note (caret_at given.known.finder note) block noted
+
+-- and that is held
+pub record IsNoteAddedTo (options : Options) (before : Block) (note : Diagnostic) (first last : At) : Type 0 where
+  pub given : At
+  pub noted : Block
+  pub note_given : IsNoteGiven options note first before given noted
   pub held : last ≡ with_block given noted
 
 -- ---- heads and notes
 
 -- a head begins a diagnostic where its file can be read; else its line passed
 pub data IsHeadShown (options : Options) (line : Line) (parsed : Diagnostic) (first last : At) : Type 0 where
-  began : (opened : Diagnostic) (finder : Finder) → IsOpened parsed opened first.known.finder finder
-      → is_first_held finder opened ≡ true
+  began : (opened : Diagnostic) (finder : Finder) → IsHeldOpened parsed first.known.finder finder opened
       → IsBegunBehind options line.text.now opened (with_finder first finder) last
       → IsHeadShown options line parsed first last
-  head_passed : (opened : Diagnostic) (finder : Finder) → IsOpened parsed opened first.known.finder finder
-      → is_first_held finder opened ≡ false
+  head_passed : (finder : Finder) → IsUnheldOpened parsed first.known.finder finder
       → IsLinePassed options line.bytes.now (with_finder first finder) last
       → IsHeadShown options line parsed first last
 
+-- lines passed behind what was held, and a line behind them
+pub record HaveBothPassed (options : Options) (lines : List (List ℕ)) (line : List ℕ) (first last : At) : Type 0 where
+  pub finished : At
+  pub before : IsFinished options first finished
+  pub between : Out
+  pub lines_passed : HavePassed options lines finished.out between
+  pub line_passed : HasPassed options line between last.out
+  pub known : last.known ≡ finished.known
+
 -- so does one that waited, at the span that a line names; else its lines passed, and that line
 pub data IsPlacedShown (options : Options) (line : Line) (head : PlacedHead) (first last : At) : Type 0 where
-  began_placed : (opened : Diagnostic) (finder : Finder) → IsOpened head.parsed opened first.known.finder finder
-      → is_first_held finder opened ≡ true
+  began_placed : (opened : Diagnostic) (finder : Finder) → IsHeldOpened head.parsed first.known.finder finder opened
       → IsBegunBehind options line.text.now opened (with_finder first finder) last
       → IsPlacedShown options line head first last
-  all_passed : (opened : Diagnostic) (finder : Finder) (finished : At) (head_passed : Out)
-      → IsOpened head.parsed opened first.known.finder finder → is_first_held finder opened ≡ false
-      → IsFinished options (with_finder first finder) finished
-      → HavePassed options (bytes_in head.lines.items) finished.out head_passed
-      → HasPassed options line.bytes.now head_passed last.out → last.known ≡ finished.known
+  all_passed : (finder : Finder) → IsUnheldOpened head.parsed first.known.finder finder
+      → HaveBothPassed options (bytes_in head.lines.items) line.bytes.now (with_finder first finder) last
       → IsPlacedShown options line head first last
 
--- a note was given to the diagnostic in front that it is about, or began one of its own; where its file can't
--- be read its line passed
+-- a note was given to the diagnostic in front that it is about, or began one of its own
+pub data IsHeldNoteShown (options : Options) (line : Line) (note : Diagnostic) (first last : At) : Type 0 where
+  note_added : (block : Block) → first.known.block ≡ Some block → is_about (parsed_of block) note ≡ true
+      → IsNoteAddedTo options block note (without_block first) last → IsHeldNoteShown options line note first last
+  note_began : is_note_of note first.known ≡ false → IsBegunBehind options line.text.now note first last
+      → IsHeldNoteShown options line note first last
+
+-- it was, where its file can be read; else its line passed
 pub data IsNoteShown (options : Options) (line : Line) (note : Diagnostic) (first last : At) : Type 0 where
-  note_added : (opened : Diagnostic) (finder : Finder) (block : Block)
-      → IsOpened note opened first.known.finder finder → is_first_held finder opened ≡ true
-      → first.known.block ≡ Some block → is_about (parsed_of block) opened ≡ true
-      → IsNoteAddedTo options block opened (without_block (with_finder first finder)) last
-      → IsNoteShown options line note first last
-  note_began : (opened : Diagnostic) (finder : Finder) → IsOpened note opened first.known.finder finder
-      → is_first_held finder opened ≡ true → is_note_of opened first.known ≡ false
-      → IsBegunBehind options line.text.now opened (with_finder first finder) last
-      → IsNoteShown options line note first last
-  note_passed : (opened : Diagnostic) (finder : Finder) → IsOpened note opened first.known.finder finder
-      → is_first_held finder opened ≡ false
+  note_shown : (opened : Diagnostic) (finder : Finder) → IsHeldOpened note first.known.finder finder opened
+      → IsHeldNoteShown options line opened (with_finder first finder) last → IsNoteShown options line note first last
+  note_passed : (finder : Finder) → IsUnheldOpened note first.known.finder finder
       → IsLinePassed options line.bytes.now (with_finder first finder) last
       → IsNoteShown options line note first last
 
@@ -425,14 +435,18 @@ pub record HaveLinesEnded (options : Options) (input : Option (List ℕ)) (first
   pub lines : AreNextShown options input rest first last
   pub ended : EndsSo rest ending
 
--- and then what is held, in both cases
+-- what is held behind the last line was shown
+pub record IsRestShown (options : Options) (first : Holding) (last : At) : Type 0 where
+  pub document_shown : At
+  pub document : IsHeldShown options first.document first.at document_shown
+  pub held : IsFinished options document_shown last
+
+-- an input was shown so, and then what is held, in both cases
 pub record IsInputShown (options : Options) (input : Option (List ℕ)) (first last : At) (ending : InputEnd)
     : Type 0 where
   pub lines_shown : Holding
   pub lines : HaveLinesEnded options input (holding_of None first) lines_shown ending
-  pub document_shown : At
-  pub document : IsHeldShown options lines_shown.document lines_shown.at document_shown
-  pub held : IsFinished options document_shown last
+  pub rest : IsRestShown options lines_shown last
 
 -- what stands behind all: how many more diagnostics there are, and the sum of what was told, on lines of their
 -- own; beside a document, behind its end

@@ -3,7 +3,9 @@
 ghost use Rattle.std.specs.Prelude.{OnOk};
 ghost use Rattle.ariadne_show.specs.ReadFiles.{HaveSources};
 ghost use Rattle.ariadne_show.specs.RunOutput.{at_of, IsAnswered, IsHeadShown, IsLineShown, IsNoteShown};
+ghost use Rattle.ariadne_show.specs.RunOutput.{HaveBothPassed, IsHeldNoteShown};
 ghost use Rattle.ariadne_show.specs.RunOutput.{IsOtherShown, IsPlacedShown, IsReadShown, IsTextShown};
+ghost use Rattle.ariadne_show.specs.WaitingLines.{bytes_in};
 
 use crate::fault::Fault;
 use crate::front::PlacedHead;
@@ -158,13 +160,29 @@ impl<R: Files> Task<'_, R> {
             (at_of run.old streams.old) (at_of run.new streams.new)) }
         ensures sources { OnOk result (HaveSources run.new.known.finder.shelf) }
     {
-        let PlacedHead { lines, mut parsed } = head;
-        if run.known.finder.open(self.files, &mut parsed)? {
-            return self.begin(run, parsed, line.text, streams);
+        let PlacedHead { lines, parsed } = head;
+        match run.known.finder.opened(self.files, parsed)? {
+            Some(opened) => self.begin(run, opened, line.text, streams),
+            None => self.pass_both(run, lines.as_slice(), line.bytes, streams),
         }
+    }
+
+    /// Writes lines that waited and pass, behind the diagnostic in front, and a line behind them.
+    fn pass_both<W: Write, F: Write>(
+        &self,
+        run: &mut Run,
+        lines: &[Vec<u8>],
+        line: &[u8],
+        streams: &mut Streams<W, F>,
+    ) -> Result<(), Fault>
+        requires { HaveSources run.old.known.finder.shelf }
+        ensures passed { OnOk result (HaveBothPassed self.now.options.now (bytes_in lines.now) line.now
+            (at_of run.old streams.old) (at_of run.new streams.new)) }
+        ensures sources { OnOk result (HaveSources run.new.known.finder.shelf) }
+    {
         self.finish(run, streams)?;
-        self.pass_lines(run, lines.as_slice(), streams)?;
-        self.pass(run, line.bytes, streams)
+        self.pass_lines(run, lines, streams)?;
+        self.pass(run, line, streams)
     }
 
     /// Holds a diagnostic whose head is a line, if its file can be read. Else the line passes.
@@ -172,7 +190,7 @@ impl<R: Files> Task<'_, R> {
         &self,
         run: &mut Run,
         line: Line<'_>,
-        mut parsed: Diagnostic,
+        parsed: Diagnostic,
         streams: &mut Streams<W, F>,
     ) -> Result<(), Fault>
         requires { HaveSources run.old.known.finder.shelf }
@@ -180,10 +198,9 @@ impl<R: Files> Task<'_, R> {
             (at_of run.old streams.old) (at_of run.new streams.new)) }
         ensures sources { OnOk result (HaveSources run.new.known.finder.shelf) }
     {
-        if run.known.finder.open(self.files, &mut parsed)? {
-            self.begin(run, parsed, line.text, streams)
-        } else {
-            self.pass_line(run, line.bytes, streams)
+        match run.known.finder.opened(self.files, parsed)? {
+            Some(parsed) => self.begin(run, parsed, line.text, streams),
+            None => self.pass_line(run, line.bytes, streams),
         }
     }
 
@@ -193,7 +210,7 @@ impl<R: Files> Task<'_, R> {
         &self,
         run: &mut Run,
         line: Line<'_>,
-        mut note: Diagnostic,
+        note: Diagnostic,
         streams: &mut Streams<W, F>,
     ) -> Result<(), Fault>
         requires { HaveSources run.old.known.finder.shelf }
@@ -201,9 +218,26 @@ impl<R: Files> Task<'_, R> {
             (at_of run.old streams.old) (at_of run.new streams.new)) }
         ensures sources { OnOk result (HaveSources run.new.known.finder.shelf) }
     {
-        if !run.known.finder.open(self.files, &mut note)? {
-            return self.pass_line(run, line.bytes, streams);
+        match run.known.finder.opened(self.files, note)? {
+            Some(note) => self.give_or_begin(run, line, note, streams),
+            None => self.pass_line(run, line.bytes, streams),
         }
+    }
+
+    /// Gives a note whose file is held to the diagnostic in front, if there is one that it is about. Else it is
+    /// a diagnostic of its own.
+    fn give_or_begin<W: Write, F: Write>(
+        &self,
+        run: &mut Run,
+        line: Line<'_>,
+        note: Diagnostic,
+        streams: &mut Streams<W, F>,
+    ) -> Result<(), Fault>
+        requires { HaveSources run.old.known.finder.shelf }
+        ensures shown { OnOk result (IsHeldNoteShown self.now.options.now line.entry note
+            (at_of run.old streams.old) (at_of run.new streams.new)) }
+        ensures sources { OnOk result (HaveSources run.new.known.finder.shelf) }
+    {
         match run.known.take_block_of(&note) {
             Some(block) => self.add_note(run, block, note, streams),
             None => self.begin(run, note, line.text, streams),

@@ -131,8 +131,14 @@ impl<R: Files> Task<'_, R> {
             Answer::Diagnostics(all) => self.show_all(run, all, streams),
             Answer::Dropped => self.finish(run, streams),
             Answer::Nothing => self.show_as_lines(run, document.bytes(), streams),
-            Answer::Head(_) => self.show_as_lines(run, document.bytes(), streams),
-            Answer::Note(_) => self.show_as_lines(run, document.bytes(), streams),
+            Answer::Head(parsed) => {
+                drop(parsed);
+                self.show_as_lines(run, document.bytes(), streams)
+            }
+            Answer::Note(note) => {
+                drop(note);
+                self.show_as_lines(run, document.bytes(), streams)
+            }
         }
     }
 

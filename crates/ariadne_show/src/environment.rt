@@ -31,14 +31,30 @@ pub struct Environment {
 impl Environment {
     /// The variables of a process. On `Err` there was no memory for them.
     pub fn of<R: Env + AllocGlobal>(rt: &R) -> Result<Environment, AllocError> {
-        Ok(Environment {
-            no_color: variable(rt, "NO_COLOR")?,
-            force_color: variable(rt, "FORCE_COLOR")?,
-            clicolor_force: variable(rt, "CLICOLOR_FORCE")?,
-            clicolor: variable(rt, "CLICOLOR")?,
-            term: variable(rt, "TERM")?,
-            columns: variable(rt, "COLUMNS")?,
-        })
+        let mut environment = Environment::empty();
+        environment.read(rt).and(Ok(environment))
+    }
+
+    /// No variable is set.
+    fn empty() -> Environment {
+        Environment {
+            no_color: None,
+            force_color: None,
+            clicolor_force: None,
+            clicolor: None,
+            term: None,
+            columns: None,
+        }
+    }
+
+    /// Reads the variables of a process.
+    fn read<R: Env + AllocGlobal>(&mut self, rt: &R) -> Result<(), AllocError> {
+        read_variable(rt, "NO_COLOR", &mut self.no_color)?;
+        read_variable(rt, "FORCE_COLOR", &mut self.force_color)?;
+        read_variable(rt, "CLICOLOR_FORCE", &mut self.clicolor_force)?;
+        read_variable(rt, "CLICOLOR", &mut self.clicolor)?;
+        read_variable(rt, "TERM", &mut self.term)?;
+        read_variable(rt, "COLUMNS", &mut self.columns)
     }
 
     /// Whether there are colours, by `--color`, these variables, and whether the output is a terminal.
@@ -85,6 +101,16 @@ impl Environment {
             None
         }
     }
+}
+
+/// Reads what a variable holds.
+fn read_variable<R: Env + AllocGlobal>(
+    rt: &R,
+    name: &str,
+    value: &mut Option<String>,
+) -> Result<(), AllocError> {
+    *value = variable(rt, name)?;
+    Ok(())
 }
 
 /// What a variable holds, if it is set: U+FFFD in place of what is not UTF-8.

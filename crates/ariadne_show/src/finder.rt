@@ -2,7 +2,7 @@
 
 ghost use Rattle.std.specs.Prelude.{◌≡◌, IfOk, OnOk};
 ghost use Rattle.ariadne_show.specs.Finding.{caret_at, is_first_held, is_held, IsNewFinder, IsOpened};
-ghost use Rattle.ariadne_show.specs.Finding.{AreChangedFound, IsSpanSettled};
+ghost use Rattle.ariadne_show.specs.Finding.{AreChangedFound, IsOpenedIfHeld, IsSpanSettled};
 ghost use Rattle.ariadne_show.specs.ReadFiles.{HaveSources};
 
 use crate::bounds::Bounds;
@@ -34,13 +34,14 @@ impl Finder {
         ensures new { IfOk result IsNewFinder }
         ensures sources { IfOk result (λ finder. HaveSources finder.shelf) }
     {
+        let origin = Origin::new(files, alloc, options.base)?;
         let bounds = match options.base {
             Some(base) => Bounds::below(files, alloc, base)?,
             None => Bounds::Anywhere,
         };
         Ok(Finder {
             shelf: Shelf::new(alloc, bounds),
-            origin: Origin::new(files, alloc, options.base)?,
+            origin,
             folders: Folders::new(alloc),
         })
     }
@@ -60,6 +61,24 @@ impl Finder {
         self.shelf
             .open(files, &search, spans, parsed.quoted.as_slice())?;
         Ok(self.holds_first(parsed))
+    }
+
+    /// A diagnostic whose files were read and given their paths, if the file of its first span is held.
+    pub(crate) fn opened<R: Files>(
+        &mut self,
+        files: &R,
+        mut parsed: Diagnostic,
+    ) -> Result<Option<Diagnostic>, AllocError>
+        requires { HaveSources self.old.shelf }
+        ensures opened { IfOk result (IsOpenedIfHeld parsed self.old self.new) }
+        ensures sources { OnOk result (HaveSources self.new.shelf) }
+    {
+        if self.open(files, &mut parsed)? {
+            Ok(Some(parsed))
+        } else {
+            drop(parsed);
+            Ok(None)
+        }
     }
 
     /// Has the files read that a diagnostic proposes to change, and gives its proposals the paths at which

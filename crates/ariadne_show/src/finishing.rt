@@ -3,13 +3,16 @@
 ghost use Rattle.std.specs.Prelude.{◌≡◌, None, OnOk};
 ghost use Rattle.ariadne_show.specs.ReadFiles.{HaveSources};
 ghost use Rattle.ariadne_show.specs.RunOutput.{at_of, IsBlockFinished, IsBlockWritten, IsFinished, IsLinePassed};
+ghost use Rattle.ariadne_show.specs.RunOutput.{IsReadWritten};
+ghost use Rattle.ariadne_show.specs.WaitingLines.{bytes_of};
 
 use crate::fault::Fault;
 use crate::run::Run;
 use crate::streams::Streams;
 use crate::task::Task;
 use crate::writing::{pass_behind, pass_waiting};
-use ariadne_blocks::Block;
+use ariadne_blocks::{Block, MessageLine};
+use ariadne_parse::Diagnostic;
 use std::io::Write;
 use std::mem;
 use std::rt::Files;
@@ -70,15 +73,27 @@ impl<R: Files> Task<'_, R> {
         ensures sources { OnOk result (HaveSources run.new.known.finder.shelf) }
     {
         let (mut parsed, behind) = block.finish();
-        run.known.settle(self.alloc, &mut parsed)?;
-        self.show_settled(run, parsed, streams)?;
-        pass_behind(
-            self.alloc,
-            self.options,
-            behind.as_slice(),
-            &mut run.shown,
-            streams,
-        )
+        let written = self.write_read(run, &mut parsed, behind.as_slice(), streams);
+        drop(parsed);
+        written
+    }
+
+    /// Writes a diagnostic of which all lines were read, and lines that pass behind it.
+    fn write_read<W: Write, F: Write>(
+        &self,
+        run: &mut Run,
+        read: &mut Diagnostic,
+        behind: &[MessageLine],
+        streams: &mut Streams<W, F>,
+    ) -> Result<(), Fault>
+        requires { HaveSources run.old.known.finder.shelf }
+        ensures written { OnOk result (IsReadWritten self.now.options.now read.old
+            (bytes_of behind.now) (at_of run.old streams.old) (at_of run.new streams.new)) }
+        ensures sources { OnOk result (HaveSources run.new.known.finder.shelf) }
+    {
+        run.known.settle(self.alloc, read)?;
+        self.show_settled(run, read, streams)?;
+        pass_behind(self.alloc, self.options, behind, &mut run.shown, streams)
     }
 
     /// Writes a line that passes, behind what waits in front of it.

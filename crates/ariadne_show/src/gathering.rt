@@ -5,7 +5,7 @@ ghost use Rattle.std.specs.Prelude.{◌≡◌, None, OnOk};
 ghost use Rattle.ariadne_show.specs.WaitingLines.{bytes_in};
 ghost use Rattle.ariadne_show.specs.ReadFiles.{HaveSources};
 ghost use Rattle.ariadne_show.specs.RunOutput.{at_of, giving, HasLineGone, IsBegunBehind, IsFrontGiven};
-ghost use Rattle.ariadne_show.specs.RunOutput.{IsNoteAddedTo, IsSpanGone};
+ghost use Rattle.ariadne_show.specs.RunOutput.{IsNoteAddedTo, IsNoteGiven, IsSpanGone};
 
 use crate::fault::Fault;
 use crate::front::{Role, WaitingLine};
@@ -35,9 +35,9 @@ impl<R: Files> Task<'_, R> {
         self.finish_block(run, streams)?;
         let caret = run.known.finder.caret_of(&parsed);
         let mut block = Block::new(self.alloc, parsed, head, caret)?;
-        self.give_front(run, &mut block, streams)?;
-        run.known.block = Some(block);
-        Ok(())
+        let given = self.give_front(run, &mut block, streams);
+        run.known.hold(block);
+        given
     }
 
     /// Gives a note to a diagnostic that it is about, and with it the lines that wait in front of the note.
@@ -54,10 +54,28 @@ impl<R: Files> Task<'_, R> {
             (at_of run.old streams.old) (at_of run.new streams.new)) }
         ensures sources { OnOk result (HaveSources run.new.known.finder.shelf) }
     {
-        self.give_front(run, &mut block, streams)?;
+        let noted = self.give_note(run, &mut block, note, streams);
+        run.known.hold(block);
+        noted
+    }
+
+    /// Gives the lines that wait to a diagnostic, and then a note that it is about.
+    fn give_note<W: Write, F: Write>(
+        &self,
+        run: &mut Run,
+        block: &mut Block,
+        note: Diagnostic,
+        streams: &mut Streams<W, F>,
+    ) -> Result<(), Fault>
+        requires { HaveSources run.old.known.finder.shelf }
+        ensures given { OnOk result (IsNoteGiven self.now.options.now note
+            (at_of run.old streams.old) block.old
+            (at_of run.new streams.new) block.new) }
+        ensures sources { OnOk result (HaveSources run.new.known.finder.shelf) }
+    {
+        self.give_front(run, block, streams)?;
         let caret = run.known.finder.caret_of(&note);
         block.add_note(self.alloc, note, caret)?;
-        run.known.block = Some(block);
         Ok(())
     }
 
@@ -102,7 +120,11 @@ impl<R: Files> Task<'_, R> {
         let WaitingLine { lines, role } = waiting;
         match role {
             Role::Span(span) => self.give_span(run, span, lines.as_slice(), block, streams),
-            Role::Head(_) | Role::Scope => self.pass_lines(run, lines.as_slice(), streams),
+            Role::Head(head) => {
+                drop(head);
+                self.pass_lines(run, lines.as_slice(), streams)
+            }
+            Role::Scope => self.pass_lines(run, lines.as_slice(), streams),
         }
     }
 
@@ -128,6 +150,7 @@ impl<R: Files> Task<'_, R> {
             block.add_span(span)?;
             return Ok(());
         }
+        drop(span);
         self.pass_lines(run, lines, streams)
     }
 }

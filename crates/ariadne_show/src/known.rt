@@ -1,7 +1,7 @@
 //! What a run knows behind the lines that it has read: the files, the diagnostic in front, and the lines
 //! that wait.
 
-ghost use Rattle.std.specs.Prelude.{◌≡◌, true, IfOk, OnOk};
+ghost use Rattle.std.specs.Prelude.{◌≡◌, true, IfOk, OnOk, Some};
 ghost use Rattle.ariadne_parse.specs.ArrowsParsed.{arrow_parsed};
 ghost use Rattle.ariadne_show.specs.WaitingLines.{ends_in_head as is_head_last, is_head as is_head_line};
 ghost use Rattle.ariadne_show.specs.Known.{has_waiting_lines, is_note_of, is_waited_for as is_waiting};
@@ -149,6 +149,13 @@ impl Known {
             self.front.push(waiting)?;
         }
         Ok(())
+    }
+
+    /// Holds a diagnostic in the place of the one in front.
+    pub(crate) fn hold(&mut self, block: Block)
+        ensures { self.new ≡ record self.old { block = Some block } }
+    {
+        drop(self.block.replace(block));
     }
 
     /// Gives the spans of a diagnostic of which all lines were read the marks that were drawn at the same

@@ -108,9 +108,9 @@ impl Shelf {
         if self.files.contains_key(path) {
             return Ok(());
         }
-        let held = try_file(files, self.alloc, &self.bounds, &mut self.sources, path)?;
         let key = String::from_str(self.alloc, path)?;
-        self.files.insert(key, held)?;
+        let held = try_file(files, self.alloc, &self.bounds, &mut self.sources, path)?;
+        drop(self.files.insert(key, held)?);
         Ok(())
     }
 

@@ -3,7 +3,7 @@
 ghost use Rattle.std.specs.Prelude.{◌≡◌, IfOk, OnOk};
 ghost use Rattle.ariadne_show.specs.ReadFiles.{HaveSources};
 ghost use Rattle.ariadne_show.specs.RunOutput.{at_of, holding_of, HaveLinesEnded, IsAllShown, IsEnded, IsInputShown};
-ghost use Rattle.ariadne_show.specs.RunOutput.{IsShownBy, IsShownToEnd, IsStarted};
+ghost use Rattle.ariadne_show.specs.RunOutput.{IsRestShown, IsShownBy, IsShownToEnd, IsStarted};
 ghost use Rattle.ariadne_show.specs.Sums.{line_end as end_before};
 ghost use Rattle.ariadne_show.specs.Writing.{is_open as is_line_open, out_of};
 
@@ -49,7 +49,9 @@ pub fn show<R: Files, I: BufRead, W: Write, F: Write>(
         options,
     };
     let mut run = Run::new(files, alloc, options)?;
-    task.show_by(&mut run, input, streams)
+    let shown = task.show_by(&mut run, input, streams);
+    drop(run);
+    shown
 }
 
 /// Where the lines of an input end.
@@ -124,9 +126,22 @@ impl<R: Files> Task<'_, R> {
     {
         let mut held = None;
         let ending = self.show_lines(run, &mut held, input, streams)?;
-        self.show_held(run, &held, streams)?;
-        self.finish(run, streams)?;
-        Ok(ending)
+        self.show_rest(run, &held, streams).and(Ok(ending))
+    }
+
+    /// Shows what is held behind the last line.
+    fn show_rest<W: Write, F: Write>(
+        &self,
+        run: &mut Run,
+        held: &Option<Document>,
+        streams: &mut Streams<W, F>,
+    ) -> Result<(), Fault>
+        requires { HaveSources run.old.known.finder.shelf }
+        ensures { OnOk result (IsRestShown self.now.options.now
+            (holding_of held.now (at_of run.old streams.old)) (at_of run.new streams.new)) }
+    {
+        self.show_held(run, held, streams)?;
+        self.finish(run, streams)
     }
 
     /// Shows the lines of the input, to its end.

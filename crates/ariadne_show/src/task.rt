@@ -61,16 +61,16 @@ impl<R: Files> Task<'_, R> {
     pub(crate) fn show_settled<W: Write, F: Write>(
         &self,
         run: &mut Run,
-        mut parsed: Diagnostic,
+        parsed: &mut Diagnostic,
         streams: &mut Streams<W, F>,
     ) -> Result<(), Fault>
         requires { HaveSources run.old.known.finder.shelf }
-        ensures shown { OnOk result (IsSettledShown self.now.options.now parsed
+        ensures shown { OnOk result (IsSettledShown self.now.options.now parsed.old
             (at_of run.old streams.old) (at_of run.new streams.new)) }
         ensures sources { OnOk result (HaveSources run.new.known.finder.shelf) }
     {
-        run.known.finder.find_changed(self.files, &mut parsed)?;
-        self.show_one(run, &parsed, streams)
+        run.known.finder.find_changed(self.files, parsed)?;
+        self.show_one(run, parsed, streams)
     }
 
     /// Counts a diagnostic whose files were read, and writes it, if that is asked for.

@@ -60,7 +60,24 @@ impl<R: Files> Task<'_, R> {
             (at_of run.old streams.old) (at_of run.new streams.new)) }
         ensures sources { OnOk result (HaveSources run.new.known.finder.shelf) }
     {
-        run.known.finder.open(self.files, &mut parsed)?;
+        let shown = self.show_over_files(run, &mut parsed, streams);
+        drop(parsed);
+        shown
+    }
+
+    /// Writes a diagnostic over its files, without spans that repeat others, and counts it.
+    fn show_over_files<W: Write, F: Write>(
+        &self,
+        run: &mut Run,
+        parsed: &mut Diagnostic,
+        streams: &mut Streams<W, F>,
+    ) -> Result<(), Fault>
+        requires { HaveSources run.old.known.finder.shelf }
+        ensures shown { OnOk result (IsWholeShown self.now.options.now parsed.old
+            (at_of run.old streams.old) (at_of run.new streams.new)) }
+        ensures sources { OnOk result (HaveSources run.new.known.finder.shelf) }
+    {
+        run.known.finder.open(self.files, parsed)?;
         drop_repeats(self.alloc, &mut parsed.spans)?;
         self.show_settled(run, parsed, streams)
     }

@@ -201,10 +201,7 @@ fn inputs<'a>(alloc: Global) -> Arg<'a>
 fn told_by_signs(alloc: Global, words: &[String], error: Error) -> Result<Fault, AllocError>
     ensures { IfOk result TellsWords }
 {
-    let mut shown = Vec::new(alloc);
-    for word in words {
-        shown.push(visible(alloc, word.as_str(), TextKind::OneRow)?)?;
-    }
+    let shown = with_signs(alloc, words)?;
     let error = match parse(alloc, shown.as_slice()) {
         Ok(_) => error,
         Err(error) => error,
@@ -213,4 +210,13 @@ fn told_by_signs(alloc: Global, words: &[String], error: Error) -> Result<Fault,
         return Err(AllocError);
     }
     Fault::words(alloc, &error)
+}
+
+/// Words with a sign for each character that a terminal obeys.
+fn with_signs(alloc: Global, words: &[String]) -> Result<Vec<String>, AllocError> {
+    let mut shown = Vec::new(alloc);
+    for word in words {
+        shown.push(visible(alloc, word.as_str(), TextKind::OneRow)?)?;
+    }
+    Ok(shown)
 }

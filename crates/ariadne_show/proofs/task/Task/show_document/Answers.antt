@@ -32,8 +32,8 @@ returns-in-Head-clause-shown g c =
     (ap is_whole c.in-Head.is) c.bytes-in-Head.ensures c.show_as_lines-in-Head.ensures.shown
 
 -- it tells nothing
-pub returns-clause-shown : goal.returns-clause-shown
-returns-clause-shown g c =
+pub returns-in-Note-clause-shown : goal.returns-in-Note-clause-shown
+returns-in-Note-clause-shown g c =
     none_if c.show_as_lines-in-Note.result c.args.self.now.options.now c.args.document.now c.bytes-in-Note.result.now
     (at_of c.args.run.now c.args.streams.now) _ c.document_answer.new.sent c.in_ok-answer.answer c.in_ok-answer.ensures
     (ap is_whole c.in-Note.is) c.bytes-in-Note.ensures c.show_as_lines-in-Note.ensures.shown
