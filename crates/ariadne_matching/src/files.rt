@@ -39,6 +39,7 @@ impl TextFiles {
         alloc: Global,
         base: Option<&str>,
     ) -> Result<TextFiles, AllocError> {
+        let origin = Origin::new(files, alloc, base)?;
         let bounds = match base {
             Some(base) => Bounds::below(files, alloc, base)?,
             None => Bounds::Anywhere,
@@ -46,7 +47,7 @@ impl TextFiles {
         Ok(TextFiles {
             files: HashMap::new(alloc),
             bounds,
-            origin: Origin::new(files, alloc, base)?,
+            origin,
             folders: Folders::new(alloc),
             alloc,
         })
@@ -83,7 +84,16 @@ impl TextFiles {
     fn find<R: Files>(&mut self, files: &R, name: &str) -> Result<Option<String>, AllocError> {
         let search = self.origin.search(None, self.folders.as_slice());
         let paths = candidates(self.alloc, &search, name)?;
-        for path in &paths {
+        self.first_read(files, paths.as_slice())
+    }
+
+    /// The first of these paths at which a file can be read.
+    fn first_read<R: Files>(
+        &mut self,
+        files: &R,
+        paths: &[String],
+    ) -> Result<Option<String>, AllocError> {
+        for path in paths {
             let path = path.as_str();
             self.read(files, path)?;
             if self.is_read(path) {
@@ -103,13 +113,18 @@ impl TextFiles {
         if self.files.contains_key(path) {
             return Ok(());
         }
-        let file = match self.bounds.read(files, self.alloc, path)? {
-            Some(bytes) => Some(text_file(self.alloc, bytes.as_slice())?),
-            None => None,
-        };
         let key = String::from_str(self.alloc, path)?;
-        self.files.insert(key, file)?;
+        let file = self.file_at(files, path)?;
+        drop(self.files.insert(key, file)?);
         Ok(())
+    }
+
+    /// The file at a path, if it can be read.
+    fn file_at<R: Files>(&self, files: &R, path: &str) -> Result<Option<TextFile>, AllocError> {
+        match self.bounds.read(files, self.alloc, path)? {
+            Some(bytes) => Ok(Some(text_file(self.alloc, bytes.as_slice())?)),
+            None => Ok(None),
+        }
     }
 }
 

@@ -3,7 +3,8 @@
 //!
 //! The entries of people's own table (`own`) and of the program's are tried at lines that wait (`lines`, `matchers`).
 //! What they tell (`reading`) is placed in the files that they name (`files`), written as a report (`reports`), and
-//! handed over (`handing`). `settling` has the lines that wait and what is ready of them.
+//! handed over (`handing`). `settling` has the lines that wait and what is ready of them,
+//! and `showing` shows what is handed over.
 #![tactic(auto)]
 
 pub mod files;
@@ -15,7 +16,9 @@ pub mod own;
 pub mod reading;
 pub mod reports;
 pub mod settling;
+pub mod showing;
 
 pub use input::{MatchedInput, options_behind};
 pub use matchers::Matchers;
 pub use own::{matchers_of, own_table};
+pub use showing::show_input;

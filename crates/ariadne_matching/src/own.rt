@@ -58,13 +58,19 @@ pub fn matchers_of<'t>(
 fn read_table<R: Files>(files: &R, alloc: Global, path: &str) -> Result<Table, Fault>
     ensures { IfOk result (λ table. (text : List ℕ) × IsTableIn text table) }
 {
-    let text = match fs::read_to_string(&(files, alloc), path) {
-        Ok(text) => text,
-        Err(error) => return Err(unread(alloc, path, &error)?),
-    };
-    match table_of(alloc, text.as_str()) {
+    match fs::read_to_string(&(files, alloc), path) {
+        Ok(text) => table_in(alloc, path, text.as_str()),
+        Err(error) => Err(unread(alloc, path, &error)?),
+    }
+}
+
+/// The table that the text of the file at a path is.
+fn table_in(alloc: Global, path: &str, text: &str) -> Result<Table, Fault>
+    ensures { IfOk result (IsTableIn text.now) }
+{
+    match table_of(alloc, text) {
         Ok(table) => Ok(table),
-        Err(refusal) => Err(refused(alloc, path, text.as_str(), &refusal)?),
+        Err(refusal) => Err(refused(alloc, path, text, &refusal)?),
     }
 }
 

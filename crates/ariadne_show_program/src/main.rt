@@ -2,13 +2,13 @@
 #![tactic(auto)]
 
 use ariadne::RetryInterrupted;
-use ariadne_matching::{MatchedInput, matchers_of, options_behind, own_table};
+use ariadne_matching::show_input;
 use ariadne_show::{
-    Environment, Fault, Input, Inputs, Options, Request, Status, Streams, read_words, show,
-    show_page, tell_fault,
+    Environment, Fault, Input, Inputs, Options, Request, Status, Streams, read_words, show_page,
+    tell_fault,
 };
 use std::env;
-use std::io::{BufRead, BufReader, IsTerminal, Read};
+use std::io::{IsTerminal, Read};
 use std::process::ExitCode;
 use std::rt::Env;
 
@@ -17,14 +17,6 @@ fn given_words<R: Env + AllocGlobal>(rt: &R) -> Result<Vec<String>, Fault> {
     match env::args(rt) {
         Ok(args) => Ok(args.skip(1).collect(rt.alloc())?),
         Err(error) => Err(Fault::of_words(&error)),
-    }
-}
-
-/// What reads an input by larger pieces.
-fn buffered<I: Read + Drop>(rt: &HostRuntime, input: I) -> Result<BufReader<I>, Fault> {
-    match BufReader::new(rt.alloc(), input) {
-        Ok(input) => Ok(input),
-        Err(error) => Err(Fault::of_reading(&error)),
     }
 }
 
@@ -51,30 +43,17 @@ fn show_inputs(
     }
 }
 
-/// Shows what is read, with a report in the place of what a matcher reads.
+/// Shows what is read.
 fn show_read<I: Read + Drop>(
     rt: &HostRuntime,
     options: Options<'_>,
     input: I,
 ) -> Result<Status, Fault> {
-    let own = own_table(rt, rt.alloc(), options.matcher)?;
-    let matchers = matchers_of(rt.alloc(), &own, options.tool)?;
-    let input = buffered(rt, input)?;
-    let input = MatchedInput::new(rt, rt.alloc(), &options, matchers, input)?;
-    show_matched(rt, &options_behind(options), buffered(rt, input)?)
-}
-
-/// Shows what is read behind the matchers.
-fn show_matched<I: BufRead + Drop>(
-    rt: &HostRuntime,
-    options: &Options<'_>,
-    mut input: I,
-) -> Result<Status, Fault> {
     let mut streams = Streams {
         out: RetryInterrupted::new(rt.stdout()),
         beside: RetryInterrupted::new(rt.stderr()),
     };
-    let sum = show(rt, rt.alloc(), options, &mut input, &mut streams)?;
+    let sum = show_input(rt, rt.alloc(), options, input, &mut streams)?;
     Ok(sum.status(options.fail_on))
 }
 
