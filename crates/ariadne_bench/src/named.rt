@@ -75,8 +75,7 @@ pub fn report(
     let mut report = Report::build(alloc, ReportKind::Error, span)
         .with_config(plain())
         .with_message(title_of(named))?;
-    add_labels(alloc, &mut report, named, labels)?;
-    Ok(report.finish())
+    add_labels(alloc, &mut report, named, labels).and(Ok(report.finish()))
 }
 
 /// The sources of such a report: each has the line of its number.

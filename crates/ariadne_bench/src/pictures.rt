@@ -67,8 +67,7 @@ pub fn report_of(alloc: Global, job: &Job) -> Result<Report<'static>, AllocError
     let mut report = Report::build(alloc, ReportKind::Error, span)
         .with_config(config_of(job))
         .with_message(job.message)?;
-    add_labels(alloc, &mut report, job)?;
-    Ok(report.finish())
+    add_labels(alloc, &mut report, job).and(Ok(report.finish()))
 }
 
 /// The report of a job, and its source.

@@ -210,13 +210,17 @@ fn add_parts<S: Placed>(
     add_painted(alloc, builder, case)
 }
 
+/// A report at the place of a case, with its kind, its settings and its code.
+fn begun<S: Placed>(alloc: Global, case: &Value) -> Result<ReportBuilder<'_, S>, AllocError> {
+    let place = S::placed(alloc, case, case)?;
+    let builder = Report::build(alloc, kind_of(case), place).with_config(config_of(case));
+    coded(numbered(builder, case)?, case)
+}
+
 /// The report of a case.
 pub fn report_of<S: Placed>(alloc: Global, case: &Value) -> Result<Report<'_, S>, AllocError> {
-    let place = S::placed(alloc, case, case)?;
-    let builder = Report::build(alloc, kind_of(case), place);
-    let mut builder = coded(numbered(builder, case)?, case)?;
-    add_parts(alloc, &mut builder, case)?;
-    Ok(builder.with_config(config_of(case)).finish())
+    let mut builder = begun(alloc, case)?;
+    add_parts(alloc, &mut builder, case).and(Ok(builder.finish()))
 }
 
 /// The text of a source of several.

@@ -6,7 +6,7 @@ use crate::making::{counted, text_in};
 use crate::members::{has, list, text, word};
 use crate::offsets::{Placed, offsets_at};
 use crate::safely::answer_safely;
-use crate::sending::{Answer, Sending, sending_of};
+use crate::sending::{Answer, sending_of};
 use ariadne::{Cache, FileCache, FnCache, Source, Span};
 use std::alloc::{AllocError, Global};
 use std::collections::HashMap;
@@ -62,27 +62,8 @@ fn plain<S: Placed + Span<SourceId = ()>>(
     alloc: Global,
     case: &Value,
 ) -> Result<Answer, AllocError> {
-    let sending = sending_of::<S>(alloc, case)?;
-    over_source(&sending, case)
-}
-
-/// What is drawn of a report over its only source.
-fn over_source<S: Span<SourceId = ()>>(
-    sending: &Sending<'_, S>,
-    case: &Value,
-) -> Result<Answer, AllocError> {
-    let words = text(case, "source").unwrap_or("");
-    let mut source = counted(sending.alloc, words, case)?;
-    sending.over(&mut source)
-}
-
-/// What is drawn of a case over sources that have ids.
-fn named<S: Placed + Span<SourceId = String>>(
-    alloc: Global,
-    case: &Value,
-) -> Result<Answer, AllocError> {
-    let sending = sending_of::<S>(alloc, case)?;
-    over_given(&sending, case)
+    let mut source = counted(alloc, text(case, "source").unwrap_or(""), case)?;
+    sending_of::<S>(alloc, case)?.over(&mut source)
 }
 
 /// What is drawn of a case over a cache of sources with ids.
@@ -93,8 +74,7 @@ fn over_cache<C: Cache<String>>(
 ) -> Result<Answer, AllocError>
     requires { C.can_fetch cache.old }
 {
-    let sending = sending_of::<(String, Range<usize>)>(alloc, case)?;
-    sending.over(cache)
+    sending_of::<(String, Range<usize>)>(alloc, case)?.over(cache)
 }
 
 /// Fails for every id.
@@ -127,17 +107,17 @@ fn hidden_in(case: &Value) -> &str {
     text(case, "hidden").unwrap_or("")
 }
 
-/// What is drawn of a report over sources that are given to a cache. It is held by one of the program's
-/// own, which can hide the name of a source.
-fn over_given<S: Span<SourceId = String>>(
-    sending: &Sending<'_, S>,
+/// What is drawn of a case over sources that have ids and are given to a cache. It is held by one of
+/// the program's own, which can hide the name of a source.
+fn named<S: Placed + Span<SourceId = String>>(
+    alloc: Global,
     case: &Value,
 ) -> Result<Answer, AllocError> {
-    let given = given_sources(sending.alloc, case)?;
+    let given = given_sources(alloc, case)?;
     let mut cache = Discreet {
-        cache: FnCache::new(sending.alloc, missing).with_sources(given)?,
+        cache: FnCache::new(alloc, missing).with_sources(given)?,
         is_hiding: has(case, "hidden"),
         hidden: hidden_in(case),
     };
-    sending.over(&mut cache)
+    sending_of::<S>(alloc, case)?.over(&mut cache)
 }

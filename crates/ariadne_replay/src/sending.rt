@@ -48,7 +48,7 @@ pub struct Answer {
 /// A report, and how much of its picture is taken.
 #[derive(Drop)]
 pub struct Sending<'c, S: Span> {
-    pub alloc: Global,
+    alloc: Global,
     /// How many bytes the writer takes before it fails, if it does.
     room: Option<usize>,
     report: Report<'c, S>,
@@ -64,7 +64,7 @@ pub fn sending_of<S: Placed>(alloc: Global, case: &Value) -> Result<Sending<'_, 
     })
 }
 
-impl<S: Span> Sending<'_, S> {
+impl<S: Span + Drop> Sending<'_, S> {
     /// Sends the picture over a cache to `out`.
     fn send<C: Cache<S::SourceId>>(
         &self,
@@ -83,7 +83,7 @@ impl<S: Span> Sending<'_, S> {
     }
 
     /// What is drawn over a cache.
-    pub fn over<C: Cache<S::SourceId>>(&self, cache: &mut C) -> Result<Answer, AllocError>
+    pub fn over<C: Cache<S::SourceId>>(self, cache: &mut C) -> Result<Answer, AllocError>
         requires { C.can_fetch cache.old }
     {
         let mut out = Vec::new(self.alloc);
