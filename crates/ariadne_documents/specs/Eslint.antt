@@ -73,10 +73,12 @@ unfixed file d =
     coded (text_at (codes "ruleId") d)
     (filed (severity_of d) (words_at (codes "message") d) file (message_span file d))
 
+abbrev pub with_fixes : List ℕ → List ℕ → Data → Read → Read
+with_fixes file source d parsed =
+    with_suggestions file source (items_in (list_at (codes "suggestions") d)) (with_own_fix [] file source d parsed)
+
 abbrev pub message_read : List ℕ → List ℕ → Data → Read
-message_read file source d =
-    with_suggestions file source (items_in (list_at (codes "suggestions") d))
-    (with_own_fix [] file source d (unfixed file d))
+message_read file source d = with_fixes file source d (unfixed file d)
 
 -- the messages of a file, and of all files
 abbrev pub file_parsed : Data → List Read

@@ -68,10 +68,13 @@ published_span file d = own_span_from file Utf16 (range_location (codes "start")
 abbrev pub with_spans : List Seen → Read → Read
 with_spans spans parsed = record parsed { spans = parsed.spans ++ spans }
 
+abbrev pub unrelated : List ℕ → Data → Read
+unrelated file d =
+    coded (code_of d) (filed (severity_of d) (words_at (codes "message") d) file (published_span file d))
+
 abbrev pub published_read : List ℕ → Data → Read
 published_read file d =
-    with_spans (related_spans (items_in (list_at (codes "relatedInformation") d)))
-    (coded (code_of d) (filed (severity_of d) (words_at (codes "message") d) file (published_span file d)))
+    with_spans (related_spans (items_in (list_at (codes "relatedInformation") d))) (unrelated file d)
 
 abbrev pub file_parsed : Data → List Read
 file_parsed d =

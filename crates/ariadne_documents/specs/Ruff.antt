@@ -45,12 +45,17 @@ fix_edits d = items_within (codes "fix") (codes "edits") d
 abbrev pub edits_in : Data → List Edit
 edits_in d = if is_some (number_at (codes "cell") d) then [] else edits_of edit_of (fix_edits d)
 
-abbrev pub violation_read : Data → Read
-violation_read d =
-    with_fix (reason_of d) (words_at (codes "filename") d) Char (edits_in d)
-    (coded (text_at (codes "code") d)
+abbrev pub unfixed : Data → Read
+unfixed d =
+    coded (text_at (codes "code") d)
     (filed (severity_at (codes "severity") d) (words_at (codes "message") d) (words_at (codes "filename") d)
-    (violation_span d)))
+    (violation_span d))
+
+abbrev pub with_own_fix : Data → Read → Read
+with_own_fix d parsed = with_fix (reason_of d) (words_at (codes "filename") d) Char (edits_in d) parsed
+
+abbrev pub violation_read : Data → Read
+violation_read d = with_own_fix d (unfixed d)
 
 abbrev pub ruff_parsed : Data → List Read
 ruff_parsed d = parsed_each violation_read (items_in (as_array d))

@@ -52,8 +52,11 @@ unfixed d =
     coded (comment_code d)
     (filed (severity_at (codes "level") d) (words_at (codes "message") d) (words_at (codes "file") d) (comment_span d))
 
+abbrev pub with_own_fix : Data → Read → Read
+with_own_fix d parsed = with_fix [] (words_at (codes "file") d) Char (edits_in d) parsed
+
 abbrev pub comment_read : Data → Read
-comment_read d = with_fix [] (words_at (codes "file") d) Char (edits_in d) (unfixed d)
+comment_read d = with_own_fix d (unfixed d)
 
 abbrev pub shellcheck_parsed : Data → List Read
 shellcheck_parsed d = parsed_each comment_read (items_in (list_at (codes "comments") d))

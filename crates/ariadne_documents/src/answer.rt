@@ -35,10 +35,11 @@ pub fn line_answer(
     ensures { IfOk result (IsLineParsed reading line.now sent.old sent.new) }
 {
     let answer = parsed(alloc, reading, sent, line)?;
-    if may_be_document(reading.format, &answer) {
-        return Ok(answer_with(line_parsed(alloc, line)?));
+    if !may_be_document(reading.format, &answer) {
+        return Ok(answer);
     }
-    Ok(answer)
+    drop(answer);
+    Ok(answer_with(line_parsed(alloc, line)?))
 }
 
 /// What a document tells.
@@ -67,10 +68,11 @@ fn value_answer(
     ensures { IfOk result (IsValueParsed format (view value.now) sent.old sent.new) }
 {
     let answer = parsed_by_value(alloc, format, sent, value)?;
-    if may_be_document(format, &answer) {
-        return Ok(answer_with(parsed_document(alloc, value)?));
+    if !may_be_document(format, &answer) {
+        return Ok(answer);
     }
-    Ok(answer)
+    drop(answer);
+    Ok(answer_with(parsed_document(alloc, value)?))
 }
 
 /// Whether what tells this may be a document: nothing is told, and the forms of documents are looked for.

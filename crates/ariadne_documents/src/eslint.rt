@@ -11,6 +11,7 @@ ghost use Rattle.ariadne_documents.specs.Eslint as eslint;
 ghost use Rattle.ariadne_sarif.specs.DocumentParts.{parsed_each};
 ghost use Rattle.ariadne_sarif.specs.Fixing.{edit_of_piece};
 
+use crate::coded::coded;
 use crate::offsets::location_behind;
 use ariadne_parse::json::{
     copied_text, has_list, has_number, items, number, text, usize_of, words,
@@ -18,7 +19,7 @@ use ariadne_parse::json::{
 use ariadne_parse::pieces::behind_text;
 use ariadne_parse::{Change, Diagnostic, Location, Severity, Span, Unit};
 use ariadne_sarif::fixing::{Piece, change, push_fix};
-use ariadne_sarif::parts::{filed, listed, location, own_span};
+use ariadne_sarif::parts::{listed, location, own_span};
 use serde_json::Value;
 use std::alloc::{AllocError, Global};
 
@@ -132,26 +133,32 @@ fn parsed_by_message(
     ensures { IfOk result (λ parsed. read parsed ≡ eslint.message_read file.now source.now (view value.now)) }
 {
     let mut parsed = unfixed(alloc, file, value)?;
-    push_own_fix(alloc, &mut parsed, "", file, source, value)?;
-    push_suggestions(
-        alloc,
-        &mut parsed,
-        file,
-        source,
-        items(value, "suggestions"),
-    )?;
-    Ok(parsed)
+    push_fixes(alloc, &mut parsed, file, source, value).and(Ok(parsed))
+}
+
+/// Adds the fix of a message, and what is suggested for it.
+fn push_fixes(
+    alloc: Global,
+    parsed: &mut Diagnostic,
+    file: &str,
+    source: &str,
+    value: &Value,
+) -> Result<(), AllocError>
+    ensures { OnOk result (read parsed.new
+        ≡ eslint.with_fixes file.now source.now (view value.now) (read parsed.old)) }
+{
+    push_own_fix(alloc, parsed, "", file, source, value)?;
+    push_suggestions(alloc, parsed, file, source, items(value, "suggestions"))
 }
 
 /// The diagnostic of a message of a file, without what fixes it.
 fn unfixed(alloc: Global, file: &str, value: &Value) -> Result<Diagnostic, AllocError>
     ensures { IfOk result (λ parsed. read parsed ≡ eslint.unfixed file.now (view value.now)) }
 {
+    let code = copied_text(alloc, value, "ruleId")?;
     let span = message_span(alloc, file, value)?;
     let message = words(value, "message");
-    let mut parsed = filed(alloc, severity_of(value), message, file, span)?;
-    parsed.code = copied_text(alloc, value, "ruleId")?;
-    Ok(parsed)
+    coded(alloc, code, severity_of(value), message, file, span)
 }
 
 /// How bad a message is.

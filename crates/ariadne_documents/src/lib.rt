@@ -3,6 +3,7 @@
 #![tactic(auto)]
 
 pub mod answer;
+mod coded;
 pub mod document;
 mod eslint;
 pub mod form;

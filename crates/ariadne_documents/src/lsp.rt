@@ -8,11 +8,12 @@ ghost use Rattle.ariadne_parse.specs.Read.{read};
 ghost use Rattle.ariadne_documents.specs.Lsp as lsp;
 ghost use Rattle.ariadne_sarif.specs.DocumentParts.{parsed_each};
 
+use crate::coded::coded;
 use ariadne_parse::json::{
     copied_text, has_list, has_number, has_words, items, number, text, words,
 };
 use ariadne_parse::{Diagnostic, Severity, Span, Unit, span};
-use ariadne_sarif::parts::{end_of, filed, own_span, range_location};
+use ariadne_sarif::parts::{end_of, own_span, range_location};
 use ariadne_sarif::uri::path_of;
 use serde_json::Value;
 use std::alloc::{AllocError, Global};
@@ -98,12 +99,19 @@ fn parsed_by_published(
 fn parsed_by_one(alloc: Global, file: &str, value: &Value) -> Result<Diagnostic, AllocError>
     ensures { IfOk result (λ parsed. read parsed ≡ lsp.published_read file.now (view value.now)) }
 {
+    let mut parsed = unrelated(alloc, file, value)?;
+    let related = items(value, "relatedInformation");
+    push_related(alloc, &mut parsed.spans, related).and(Ok(parsed))
+}
+
+/// A diagnostic of a file, without what is related to it.
+fn unrelated(alloc: Global, file: &str, value: &Value) -> Result<Diagnostic, AllocError>
+    ensures { IfOk result (λ parsed. read parsed ≡ lsp.unrelated file.now (view value.now)) }
+{
+    let code = code_of(alloc, value)?;
     let span = published_span(alloc, file, value)?;
     let message = words(value, "message");
-    let mut parsed = filed(alloc, severity_of(value), message, file, span)?;
-    parsed.code = code_of(alloc, value)?;
-    push_related(alloc, &mut parsed.spans, items(value, "relatedInformation"))?;
-    Ok(parsed)
+    coded(alloc, code, severity_of(value), message, file, span)
 }
 
 /// The span of a diagnostic.

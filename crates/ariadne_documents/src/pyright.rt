@@ -8,9 +8,10 @@ ghost use Rattle.ariadne_parse.specs.Read.{read};
 ghost use Rattle.ariadne_sarif.specs.DocumentParts.{parsed_each};
 ghost use Rattle.ariadne_documents.specs.Pyright as pyright;
 
+use crate::coded::coded;
 use ariadne_parse::json::{copied_text, has_list, items, severity, text, words};
 use ariadne_parse::{Diagnostic, Span, Unit};
-use ariadne_sarif::parts::{filed, own_span, range_location};
+use ariadne_sarif::parts::{own_span, range_location};
 use serde_json::Value;
 use std::alloc::{AllocError, Global};
 
@@ -63,12 +64,11 @@ fn parsed_by_general(alloc: Global, values: &[Value]) -> Result<Vec<Diagnostic>,
 fn parsed_by_one(alloc: Global, value: &Value) -> Result<Diagnostic, AllocError>
     ensures { IfOk result (λ parsed. read parsed ≡ pyright.general_read (view value.now)) }
 {
-    let file = words(value, "file");
+    let code = copied_text(alloc, value, "rule")?;
     let span = general_span(alloc, value)?;
     let level = severity(value, "severity");
-    let mut parsed = filed(alloc, level, words(value, "message"), file, span)?;
-    parsed.code = copied_text(alloc, value, "rule")?;
-    Ok(parsed)
+    let message = words(value, "message");
+    coded(alloc, code, level, message, words(value, "file"), span)
 }
 
 /// The span of a general diagnostic, if it has a range.

@@ -1,6 +1,6 @@
 //! What ruff writes by `--output-format=json`.
 
-ghost use Rattle.std.specs.Prelude.{◌≡◌, map, option_map, IfOk};
+ghost use Rattle.std.specs.Prelude.{◌≡◌, map, option_map, IfOk, OnOk};
 ghost use Rattle.serde_json.specs.View.{items_view, view};
 ghost use Rattle.ariadne_parse.specs.Members.{all_items};
 ghost use Rattle.ariadne_parse.specs.Spans.{seen};
@@ -10,10 +10,11 @@ ghost use Rattle.ariadne_sarif.specs.Fixing.{edit_of_piece};
 ghost use Rattle.ariadne_sarif.specs.DocumentParts.{parsed_each};
 ghost use Rattle.ariadne_documents.specs.Ruff as ruff;
 
+use crate::coded::coded;
 use ariadne_parse::json::{copied_text, number, severity, text, words};
 use ariadne_parse::{Change, Diagnostic, Location, Span, Unit};
 use ariadne_sarif::fixing::{Piece, TellsChange, changes_of, push_fix};
-use ariadne_sarif::parts::{filed, items_within, listed, location_in, own_span, words_within};
+use ariadne_sarif::parts::{items_within, listed, location_in, own_span, words_within};
 use serde_json::Value;
 use std::alloc::{AllocError, Global};
 
@@ -71,15 +72,29 @@ fn parsed_by_violations(alloc: Global, violations: &[Value]) -> Result<Vec<Diagn
 fn parsed_by_violation(alloc: Global, value: &Value) -> Result<Diagnostic, AllocError>
     ensures { IfOk result (λ parsed. read parsed ≡ ruff.violation_read (view value.now)) }
 {
-    let file = words(value, "filename");
+    let mut parsed = unfixed(alloc, value)?;
+    push_own_fix(alloc, &mut parsed, value).and(Ok(parsed))
+}
+
+/// The diagnostic of a violation, without its fix.
+fn unfixed(alloc: Global, value: &Value) -> Result<Diagnostic, AllocError>
+    ensures { IfOk result (λ parsed. read parsed ≡ ruff.unfixed (view value.now)) }
+{
+    let code = copied_text(alloc, value, "code")?;
     let span = violation_span(alloc, value)?;
     let level = severity(value, "severity");
-    let mut parsed = filed(alloc, level, words(value, "message"), file, span)?;
-    parsed.code = copied_text(alloc, value, "code")?;
+    let message = words(value, "message");
+    coded(alloc, code, level, message, words(value, "filename"), span)
+}
+
+/// Adds the fix of a violation, and why.
+fn push_own_fix(alloc: Global, parsed: &mut Diagnostic, value: &Value) -> Result<(), AllocError>
+    ensures { OnOk result (read parsed.new ≡ ruff.with_own_fix (view value.now) (read parsed.old)) }
+{
     let why = words_within(value, "fix", "message");
+    let file = words(value, "filename");
     let changes = fix_changes(alloc, value)?;
-    push_fix(alloc, &mut parsed, why, file, Unit::Char, changes)?;
-    Ok(parsed)
+    push_fix(alloc, parsed, why, file, Unit::Char, changes)
 }
 
 /// The span of a violation, if that isn't in a cell of a notebook.

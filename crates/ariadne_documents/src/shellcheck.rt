@@ -1,6 +1,6 @@
 //! What shellcheck writes by `--format=json1`.
 
-ghost use Rattle.std.specs.Prelude.{◌≡◌, map, option_map, string_bytes, IfOk};
+ghost use Rattle.std.specs.Prelude.{◌≡◌, map, option_map, string_bytes, IfOk, OnOk};
 ghost use Rattle.serde_json.specs.Find.{as_object};
 ghost use Rattle.serde_json.specs.View.{items_view, members_view, view};
 ghost use Rattle.ariadne_parse.specs.Members.{all_items};
@@ -12,10 +12,11 @@ ghost use Rattle.ariadne_sarif.specs.DocumentParts.{parsed_each};
 ghost use Rattle.ariadne_documents.specs.Objects.{is_one, members_in};
 ghost use Rattle.ariadne_documents.specs.Shellcheck as shellcheck;
 
+use crate::coded::coded;
 use ariadne_parse::json::{has_list, items, number, severity, text, words};
 use ariadne_parse::{Change, Diagnostic, Location, Span, Unit};
 use ariadne_sarif::fixing::{Piece, TellsChange, changes_of, push_fix};
-use ariadne_sarif::parts::{filed, items_within, location, own_span};
+use ariadne_sarif::parts::{items_within, location, own_span};
 use serde_json::{Map, Value};
 use std::alloc::{AllocError, Global};
 
@@ -92,28 +93,27 @@ fn parsed_by_comment(alloc: Global, value: &Value) -> Result<Diagnostic, AllocEr
     ensures { IfOk result (λ parsed. read parsed ≡ shellcheck.comment_read (view value.now)) }
 {
     let mut parsed = unfixed(alloc, value)?;
+    push_own_fix(alloc, &mut parsed, value).and(Ok(parsed))
+}
+
+/// Adds the fix of a comment.
+fn push_own_fix(alloc: Global, parsed: &mut Diagnostic, value: &Value) -> Result<(), AllocError>
+    ensures { OnOk result (read parsed.new ≡ shellcheck.with_own_fix (view value.now) (read parsed.old)) }
+{
+    let file = words(value, "file");
     let changes = fix_changes(alloc, value)?;
-    push_fix(
-        alloc,
-        &mut parsed,
-        "",
-        words(value, "file"),
-        Unit::Char,
-        changes,
-    )?;
-    Ok(parsed)
+    push_fix(alloc, parsed, "", file, Unit::Char, changes)
 }
 
 /// The diagnostic of a comment, without its fix.
 fn unfixed(alloc: Global, value: &Value) -> Result<Diagnostic, AllocError>
     ensures { IfOk result (λ parsed. read parsed ≡ shellcheck.unfixed (view value.now)) }
 {
-    let file = words(value, "file");
+    let code = comment_code(alloc, value)?;
     let span = comment_span(alloc, value)?;
     let level = severity(value, "level");
-    let mut parsed = filed(alloc, level, words(value, "message"), file, span)?;
-    parsed.code = comment_code(alloc, value)?;
-    Ok(parsed)
+    let message = words(value, "message");
+    coded(alloc, code, level, message, words(value, "file"), span)
 }
 
 /// The changes that fix a comment.

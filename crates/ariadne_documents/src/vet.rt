@@ -1,19 +1,21 @@
 //! What `go vet -json` writes.
 
-ghost use Rattle.std.specs.Prelude.{◌≡◌, ◌++◌, is_some, map, option_map, IfOk, OnOk};
+ghost use Rattle.std.specs.Prelude.{◌≡◌, ◌++◌, is_some, map, option_map, IfOk, OnOk, Some};
 ghost use Rattle.serde_json.specs.View.{items_view, members_view, view};
 ghost use Rattle.serde_json.specs.Find.{as_array};
 ghost use Rattle.ariadne_parse.specs.Members.{all_items};
 ghost use Rattle.ariadne_parse.specs.Spans.{seen};
 ghost use Rattle.ariadne_parse.specs.Read.{read};
-ghost use Rattle.ariadne_sarif.specs.DocumentParts.{are_some_of, parsed_each};
+ghost use Rattle.ariadne_sarif.specs.DocumentParts.{are_some_of, coded, filed, parsed_each};
 ghost use Rattle.ariadne_documents.specs.Objects.{all_members, any_member, flat_members};
+ghost use Rattle.ariadne_parse.specs.declared.diagnostic.Severity.TheVariants.{Error};
 ghost use Rattle.ariadne_documents.specs.Vet as vet;
 
+use crate::coded::coded as coded_diagnostic;
 use ariadne_parse::json::{text, words};
 use ariadne_parse::pieces::{split_at_last, whole_number};
 use ariadne_parse::{Diagnostic, Location, Severity, Span, Unit};
-use ariadne_sarif::parts::{filed, listed, own_span};
+use ariadne_sarif::parts::{listed, own_span};
 use serde_json::{Map, Value};
 use std::alloc::{AllocError, Global};
 
@@ -187,9 +189,7 @@ fn push_analyzer(
 {
     push_vetted(alloc, all, name, listed(value))?;
     if let Some(error) = text(value, "error") {
-        let mut parsed = Diagnostic::new(alloc, Severity::Error, error)?;
-        parsed.code = Some(String::from_str(alloc, name)?);
-        all.push(parsed)?;
+        all.push(of_analyzer(alloc, name, error, "", None)?)?;
     }
     Ok(())
 }
@@ -216,10 +216,22 @@ fn parsed_by_one(alloc: Global, name: &str, value: &Value) -> Result<Diagnostic,
 {
     let position = words(value, "posn");
     let span = vetted_span(alloc, value)?;
-    let message = words(value, "message");
-    let mut parsed = filed(alloc, Severity::Error, message, position, span)?;
-    parsed.code = Some(String::from_str(alloc, name)?);
-    Ok(parsed)
+    of_analyzer(alloc, name, words(value, "message"), position, span)
+}
+
+/// A diagnostic of an analyzer with this message, at this position and span.
+fn of_analyzer(
+    alloc: Global,
+    name: &str,
+    message: &str,
+    position: &str,
+    span: Option<Span>,
+) -> Result<Diagnostic, AllocError>
+    ensures { IfOk result (λ parsed. read parsed
+        ≡ coded (Some name.now) (filed Error message.now position.now (option_map seen span))) }
+{
+    let code = String::from_str(alloc, name)?;
+    coded_diagnostic(alloc, Some(code), Severity::Error, message, position, span)
 }
 
 /// The span of a diagnostic, if its position has a line.
