@@ -1,6 +1,6 @@
 //! Documents of one form each, and what they tell.
 
-use crate::showing::assert_told;
+use crate::showing::{Told, assert_each_told};
 
 /// `shellcheck 0.9.0 -f json1`, of `\techo $1 "é" $2` in the second line, cut to two comments.
 const SHELLCHECK: &str =
@@ -12,13 +12,11 @@ const SHELLCHECK: &str =
 {"file":"a.sh","line":3,"endLine":3,"column":10,"endColumn":16,"level":"error","code":2045,
 "message":"Iterating over ls output is fragile. Use globs.","fix":null}]}"#;
 
-#[test]
-fn shellcheck(rt: HostRuntime) {
-    assert_told(
-        &rt,
-        rt.alloc(),
-        SHELLCHECK,
-        &[
+/// Documents of shellcheck's, and what they tell.
+const OF_SHELLCHECK: &[Told] = &[
+    Told {
+        document: SHELLCHECK,
+        rows: &[
             "Note (SC2086) Double quote to prevent globbing and word splitting.",
             "  at a.sh 2:14-2:16 ",
             "  help put `\"` at 2:14",
@@ -27,15 +25,24 @@ fn shellcheck(rt: HostRuntime) {
             "Error (SC2045) Iterating over ls output is fragile. Use globs.",
             "  at a.sh 3:10-3:16 ",
         ],
-    );
-    assert_told(&rt, rt.alloc(), r#"{"comments":[]}"#, &[]);
-    assert_told(&rt, rt.alloc(), r#"{"comments":[],"id":1}"#, &["no form"]);
-    assert_told(
-        &rt,
-        rt.alloc(),
-        r#"{"comments":[{"line":1}]}"#,
-        &["no form"],
-    );
+    },
+    Told {
+        document: r#"{"comments":[]}"#,
+        rows: &[],
+    },
+    Told {
+        document: r#"{"comments":[],"id":1}"#,
+        rows: &["no form"],
+    },
+    Told {
+        document: r#"{"comments":[{"line":1}]}"#,
+        rows: &["no form"],
+    },
+];
+
+#[test]
+fn shellcheck(rt: HostRuntime) {
+    assert_each_told(&rt, OF_SHELLCHECK)
 }
 
 /// By the documentation of eslint's formatter `json`.
@@ -51,13 +58,11 @@ const ESLINT: &str = r#"[{"filePath":"/p/a.js","messages":[
 "suppressedMessages":[],"errorCount":2,"warningCount":2,"source":"\u00e9\ud83c\udf50b\r\ncd\ud83c\udf50"},
 {"filePath":"/p/b.js","messages":[],"errorCount":0}]"#;
 
-#[test]
-fn eslint(rt: HostRuntime) {
-    assert_told(
-        &rt,
-        rt.alloc(),
-        ESLINT,
-        &[
+/// Documents of eslint's, and what they tell.
+const OF_ESLINT: &[Told] = &[
+    Told {
+        document: ESLINT,
+        rows: &[
             "Error (no-unused-vars) 'addOne' is defined but never used.",
             "  at /p/a.js 1:10-1:16 utf16 ",
             "Warning (use-isnan) Use the isNaN function to compare with NaN.",
@@ -72,14 +77,20 @@ fn eslint(rt: HostRuntime) {
             "Warning () File ignored because of a matching ignore pattern.",
             "  note /p/a.js",
         ],
-    );
-    assert_told(
-        &rt,
-        rt.alloc(),
-        r#"[{"filePath":"/p/b.js","messages":[]}]"#,
-        &[],
-    );
-    assert_told(&rt, rt.alloc(), "[]", &["no form"]);
+    },
+    Told {
+        document: r#"[{"filePath":"/p/b.js","messages":[]}]"#,
+        rows: &[],
+    },
+    Told {
+        document: "[]",
+        rows: &["no form"],
+    },
+];
+
+#[test]
+fn eslint(rt: HostRuntime) {
+    assert_each_told(&rt, OF_ESLINT)
 }
 
 /// By the documentation of ruff's output format `json`.
@@ -94,24 +105,25 @@ const RUFF: &str =
 "fix":{"edits":[{"content":"","end_location":{"column":1,"row":2},"location":{"column":1,"row":1}}],"message":"Remove"},
 "location":{"column":8,"row":1},"message":"`os` imported but unused"}]"#;
 
+/// Documents of ruff's, and what they tell.
+const OF_RUFF: &[Told] = &[Told {
+    document: RUFF,
+    rows: &[
+        "Error (F401) `os` imported but unused",
+        "  at /p/a.py 1:8-1:10 ",
+        "  help Remove unused import: `os`: remove what stands from 1:1 to 2:1",
+        "  fix 0..1 /p/a.py (Remove unused import: `os`) 1:1-2:1 ``",
+        "Error () SyntaxError: Expected an expression",
+        "  at /p/a.py 3:7-4:1 ",
+        "Error (F401) `os` imported but unused",
+        "  note /p/n.ipynb",
+        "  help Remove",
+    ],
+}];
+
 #[test]
 fn ruff(rt: HostRuntime) {
-    assert_told(
-        &rt,
-        rt.alloc(),
-        RUFF,
-        &[
-            "Error (F401) `os` imported but unused",
-            "  at /p/a.py 1:8-1:10 ",
-            "  help Remove unused import: `os`: remove what stands from 1:1 to 2:1",
-            "  fix 0..1 /p/a.py (Remove unused import: `os`) 1:1-2:1 ``",
-            "Error () SyntaxError: Expected an expression",
-            "  at /p/a.py 3:7-4:1 ",
-            "Error (F401) `os` imported but unused",
-            "  note /p/n.ipynb",
-            "  help Remove",
-        ],
-    );
+    assert_each_told(&rt, OF_RUFF)
 }
 
 /// By the documentation of pyright's `--outputjson`.
@@ -121,19 +133,20 @@ const PYRIGHT: &str = r#"{"version":"1.1.300","time":"1680000000000","generalDia
 {"file":"/p/a.py","severity":"information","message":"Analysis took long"}],
 "summary":{"filesAnalyzed":1,"errorCount":1,"warningCount":0,"informationCount":1,"timeInSec":0.4}}"#;
 
+/// Documents of pyright's, and what they tell.
+const OF_PYRIGHT: &[Told] = &[Told {
+    document: PYRIGHT,
+    rows: &[
+        "Error (reportUndefinedVariable) \"x\" is not defined",
+        "  at /p/a.py 1:7-1:8 utf16 ",
+        "Note () Analysis took long",
+        "  note /p/a.py",
+    ],
+}];
+
 #[test]
 fn pyright(rt: HostRuntime) {
-    assert_told(
-        &rt,
-        rt.alloc(),
-        PYRIGHT,
-        &[
-            "Error (reportUndefinedVariable) \"x\" is not defined",
-            "  at /p/a.py 1:7-1:8 utf16 ",
-            "Note () Analysis took long",
-            "  note /p/a.py",
-        ],
-    );
+    assert_each_told(&rt, OF_PYRIGHT)
 }
 
 /// By the specification of LSP.
@@ -146,13 +159,11 @@ const LSP: &str = r#"{"jsonrpc":"2.0","method":"textDocument/publishDiagnostics"
 {"range":{"start":{"line":0,"character":0},"end":{"line":0,"character":0}},"severity":4,"code":"hint","message":"m"},
 {"range":{"start":{"line":0,"character":0},"end":{"line":0,"character":0}},"message":"n"}]}}"#;
 
-#[test]
-fn lsp(rt: HostRuntime) {
-    assert_told(
-        &rt,
-        rt.alloc(),
-        LSP,
-        &[
+/// Notifications of LSP, and what they tell.
+const OF_LSP: &[Told] = &[
+    Told {
+        document: LSP,
+        rows: &[
             "Warning (6133) 'x' is declared but its value is never read.",
             "  at /p/a b/é.ts 5:3-6:1 utf16 ",
             "  also /p/c.ts 1:1-1:4 utf16 declared here",
@@ -161,18 +172,20 @@ fn lsp(rt: HostRuntime) {
             "Error () n",
             "  at /p/a b/é.ts 1:1-1:1 utf16 ",
         ],
-    );
-    let bare =
-        r#"{"uri":"file:///p/a.c","diagnostics":[{"range":{"start":{"line":1,"character":0}},"message":"m"}]}"#;
-    assert_told(
-        &rt,
-        rt.alloc(),
-        bare,
-        &["Error () m", "  at /p/a.c 2:1 utf16 "],
-    );
-    let other =
-        r#"{"jsonrpc":"2.0","method":"window/logMessage","params":{"type":3,"message":"m"}}"#;
-    assert_told(&rt, rt.alloc(), other, &["no form"]);
+    },
+    Told {
+        document: r#"{"uri":"file:///p/a.c","diagnostics":[{"range":{"start":{"line":1,"character":0}},"message":"m"}]}"#,
+        rows: &["Error () m", "  at /p/a.c 2:1 utf16 "],
+    },
+    Told {
+        document: r#"{"jsonrpc":"2.0","method":"window/logMessage","params":{"type":3,"message":"m"}}"#,
+        rows: &["no form"],
+    },
+];
+
+#[test]
+fn lsp(rt: HostRuntime) {
+    assert_each_told(&rt, OF_LSP)
 }
 
 /// `go vet -json` of go 1.19.8, and by its documentation an end, and an analyzer that failed.
@@ -183,13 +196,11 @@ const VET: &str =
 {"posn":"-","message":"n"}],
 "shift":{"error":"analysis failed"}}}"#;
 
-#[test]
-fn vet(rt: HostRuntime) {
-    assert_told(
-        &rt,
-        rt.alloc(),
-        VET,
-        &[
+/// Documents of go vet's, and what they tell.
+const OF_VET: &[Told] = &[
+    Told {
+        document: VET,
+        rows: &[
             "Error (assign) self-assignment of i to i",
             "  at /p/a.go 7:21 bytes ",
             "Error (printf) fmt.Printf format %d has arg é of wrong type string",
@@ -202,20 +213,30 @@ fn vet(rt: HostRuntime) {
             "  note -",
             "Error (shift) analysis failed",
         ],
-    );
-    assert_told(&rt, rt.alloc(), "{}", &["no form"]);
-    assert_told(
-        &rt,
-        rt.alloc(),
-        r#"{"a":{"b":[{"message":"m"}]}}"#,
-        &["no form"],
-    );
-    assert_told(&rt, rt.alloc(), r#"{"a":{}}"#, &["no form"]);
-    assert_told(&rt, rt.alloc(), r#"{"a":{"b":[]}}"#, &["no form"]);
-    assert_told(
-        &rt,
-        rt.alloc(),
-        r#"{"a":{"b":{"error":"m"}}}"#,
-        &["no form"],
-    );
+    },
+    Told {
+        document: "{}",
+        rows: &["no form"],
+    },
+    Told {
+        document: r#"{"a":{"b":[{"message":"m"}]}}"#,
+        rows: &["no form"],
+    },
+    Told {
+        document: r#"{"a":{}}"#,
+        rows: &["no form"],
+    },
+    Told {
+        document: r#"{"a":{"b":[]}}"#,
+        rows: &["no form"],
+    },
+    Told {
+        document: r#"{"a":{"b":{"error":"m"}}}"#,
+        rows: &["no form"],
+    },
+];
+
+#[test]
+fn vet(rt: HostRuntime) {
+    assert_each_told(&rt, OF_VET)
 }

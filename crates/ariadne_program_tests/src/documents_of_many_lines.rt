@@ -1,8 +1,8 @@
 //! Documents that go over many lines, as `jq .` writes them, from their lines to what they tell.
 
 use crate::document_lines::gathered;
-use crate::showing::{all_text, assert_rows};
-use ariadne_documents::{Step, document_answer, line_answer};
+use crate::showing::{Told, all_text, assert_rows};
+use ariadne_documents::{Document, Step, document_answer, line_answer};
 use ariadne_parse::{Answer, Counting, Format, Reading, Sent, Unit};
 use std::alloc::{AllocError, Global};
 
@@ -107,52 +107,69 @@ fn answer_text(alloc: Global, answer: &Answer) -> Result<String, AllocError> {
     }
 }
 
-/// What a text tells that is one document, in rows.
-fn told_text(alloc: Global, text: &str) -> Result<String, AllocError> {
-    let (document, Some(Step::Ended)) = gathered(alloc, text)? else {
-        return String::from_str(alloc, "no document\n");
-    };
+/// What a whole document tells, in rows.
+fn document_text(alloc: Global, document: &Document) -> Result<String, AllocError> {
     let mut sent = Sent::new(alloc);
-    let answer = document_answer(alloc, Format::Auto, &mut sent, &document)?;
+    let answer = document_answer(alloc, Format::Auto, &mut sent, document)?;
     answer_text(alloc, &answer)
 }
 
+/// What a text tells that is one document, in rows.
+fn told_text(alloc: Global, text: &str) -> Result<String, AllocError> {
+    match gathered(alloc, text)? {
+        (document, Some(Step::Ended)) => document_text(alloc, &document),
+        _ => String::from_str(alloc, "no document\n"),
+    }
+}
+
 /// Documents, each with its rows.
-const DOCUMENTS: &[(&str, &[&str])] = &[
-    (
-        GCC,
-        &[
+const DOCUMENTS: &[Told] = &[
+    Told {
+        document: GCC,
+        rows: &[
             "Error () expected ‘;’ before ‘}’ token",
             "  at c.c 1:23 bytes ",
             "  help put `;` at 1:23",
             "  fix 0..1 c.c bytes () 1:23-1:23 `;`",
         ],
-    ),
-    (
-        RUSTC,
-        &[
+    },
+    Told {
+        document: RUSTC,
+        rows: &[
             "Warning (unused_variables) unused variable: `x`",
             "  at r.rs 1:17-1:18 ",
         ],
-    ),
-    (
-        VET,
-        &[
+    },
+    Told {
+        document: VET,
+        rows: &[
             "Error (printf) fmt.Printf format %d has arg é of wrong type string",
             "  at /p/a.go 6:14 bytes ",
         ],
-    ),
-    ("{}\n", &["no document"]),
-    ("{\n}\n{\n}\n", &["no document"]),
-    ("{\n\"a\": 1\n}\n", &["nothing"]),
-    ("{\n\"a\"\n}\n", &["nothing"]),
+    },
+    Told {
+        document: "{}\n",
+        rows: &["no document"],
+    },
+    Told {
+        document: "{\n}\n{\n}\n",
+        rows: &["no document"],
+    },
+    Told {
+        document: "{\n\"a\": 1\n}\n",
+        rows: &["nothing"],
+    },
+    Told {
+        document: "{\n\"a\"\n}\n",
+        rows: &["nothing"],
+    },
 ];
 
 #[test]
 fn documents_told_by_their_lines(rt: HostRuntime) {
-    for (text, rows) in DOCUMENTS {
-        let found = told_text(rt.alloc(), *text).expect(&rt, "memory");
-        assert_rows(&rt, found.as_str(), *rows);
+    for it in DOCUMENTS {
+        let found = told_text(rt.alloc(), it.document).expect(&rt, "memory");
+        assert_rows(&rt, it.document, found.as_str(), it.rows);
     }
 }
 
@@ -176,21 +193,19 @@ const LINES: &[(Format, &str, &[&str])] = &[
 
 /// What a line tells in a form, in rows.
 fn line_text(alloc: Global, format: Format, line: &str) -> Result<String, AllocError> {
-    let reading = Reading {
-        format,
-        counting: Counting {
-            unit: Unit::Byte,
-            is_from_zero: false,
-        },
+    let counting = Counting {
+        unit: Unit::Byte,
+        is_from_zero: false,
     };
+    let reading = Reading { format, counting };
     let mut sent = Sent::new(alloc);
     answer_text(alloc, &line_answer(alloc, reading, &mut sent, line)?)
 }
 
 #[test]
 fn lines_told_by_their_forms(rt: HostRuntime) {
-    for (format, line, rows) in LINES {
-        let found = line_text(rt.alloc(), *format, *line).expect(&rt, "memory");
-        assert_rows(&rt, found.as_str(), *rows);
+    for &(format, line, rows) in LINES {
+        let found = line_text(rt.alloc(), format, line).expect(&rt, "memory");
+        assert_rows(&rt, line, found.as_str(), rows);
     }
 }

@@ -1,6 +1,6 @@
 //! Logs of SARIF, and what they tell.
 
-use crate::showing::assert_told;
+use crate::showing::{Told, assert_each_told};
 
 /// `clang 16.0.6 -fdiagnostics-format=sarif`, cut to its first result.
 const CLANG: &str =
@@ -13,17 +13,18 @@ const CLANG: &str =
 {"defaultConfiguration":{"enabled":true,"level":"error","rank":50},"id":"4631","name":""}],"version":"16.0.6"}}}],
 "version":"2.1.0"}"#;
 
+/// What it tells.
+const OF_CLANG: &[Told] = &[Told {
+    document: CLANG,
+    rows: &[
+        "Error (4631) use of undeclared identifier 'x'",
+        "  at /p/b.c 3:19-3:19 ",
+    ],
+}];
+
 #[test]
 fn a_log_of_clang(rt: HostRuntime) {
-    assert_told(
-        &rt,
-        rt.alloc(),
-        CLANG,
-        &[
-            "Error (4631) use of undeclared identifier 'x'",
-            "  at /p/b.c 3:19-3:19 ",
-        ],
-    );
+    assert_each_told(&rt, OF_CLANG)
 }
 
 /// By the standard: two runs, bases, artifacts, rules, regions, related locations and fixes.
@@ -56,13 +57,11 @@ const WHOLE: &str = r#"{"version":"2.1.0","runs":[
 "region":{"startLine":1,"startColumn":2}}}]}]},
 {"tool":{"driver":{"name":"v"}}}]}"#;
 
-#[test]
-fn a_log_by_the_standard(rt: HostRuntime) {
-    assert_told(
-        &rt,
-        rt.alloc(),
-        WHOLE,
-        &[
+/// What it tells, and logs without runs or of other versions.
+const BY_THE_STANDARD: &[Told] = &[
+    Told {
+        document: WHOLE,
+        rows: &[
             "Error (R1) said by the rule",
             "  at /p/s c/a.c 2:3-4:5 utf16 own",
             "  also b.c 7-7 utf16 see",
@@ -79,27 +78,32 @@ fn a_log_by_the_standard(rt: HostRuntime) {
             "Note () second",
             "  at x.y 1:2-1 ",
         ],
-    );
-    assert_told(&rt, rt.alloc(), r#"{"version":"2.1.0","runs":[]}"#, &[]);
-    assert_told(
-        &rt,
-        rt.alloc(),
-        r#"{"version":"2.1.0","runs":[{"results":[]}]}"#,
-        &["no form"],
-    );
-    assert_told(&rt, rt.alloc(), r#"{"runs":[]}"#, &["no form"]);
-    assert_told(
-        &rt,
-        rt.alloc(),
-        r#"{"version":"1.0","runs":[]}"#,
-        &["no form"],
-    );
-    assert_told(
-        &rt,
-        rt.alloc(),
-        r#"{"$schema":"https://json.schemastore.org/sarif-2.1.0.json","runs":[]}"#,
-        &[],
-    );
+    },
+    Told {
+        document: r#"{"version":"2.1.0","runs":[]}"#,
+        rows: &[],
+    },
+    Told {
+        document: r#"{"version":"2.1.0","runs":[{"results":[]}]}"#,
+        rows: &["no form"],
+    },
+    Told {
+        document: r#"{"runs":[]}"#,
+        rows: &["no form"],
+    },
+    Told {
+        document: r#"{"version":"1.0","runs":[]}"#,
+        rows: &["no form"],
+    },
+    Told {
+        document: r#"{"$schema":"https://json.schemastore.org/sarif-2.1.0.json","runs":[]}"#,
+        rows: &[],
+    },
+];
+
+#[test]
+fn a_log_by_the_standard(rt: HostRuntime) {
+    assert_each_told(&rt, BY_THE_STANDARD)
 }
 
 /// By the standard: arguments, a rule of an extension, a result that tells of no failure, one that is gone, and the steps of
@@ -123,20 +127,21 @@ const SAID: &str =
 {"location":{"physicalLocation":{"artifactLocation":{"uri":"b.c"},"region":{"startLine":5}}}}]},
 {"locations":[{"location":{"message":{"text":"another thread"}}}]}]},{"threadFlows":[]}]}]}]}"#;
 
+/// What its results say.
+const OF_RESULTS: &[Told] = &[Told {
+    document: SAID,
+    rows: &[
+        "Error (X1) a is b{0}b{0}, not {2}, {x}, {0}, {a} or {",
+        "  also a.c 2-2 utf16 by hand",
+        "  help use c",
+        "Note (D1) {0} and {{",
+        "Warning (D0) led to",
+        "  also a.c 3:4-3 utf16 (1) made here",
+        "  also b.c 5-5 utf16 (3) ",
+    ],
+}];
+
 #[test]
 fn what_results_say(rt: HostRuntime) {
-    assert_told(
-        &rt,
-        rt.alloc(),
-        SAID,
-        &[
-            "Error (X1) a is b{0}b{0}, not {2}, {x}, {0}, {a} or {",
-            "  also a.c 2-2 utf16 by hand",
-            "  help use c",
-            "Note (D1) {0} and {{",
-            "Warning (D0) led to",
-            "  also a.c 3:4-3 utf16 (1) made here",
-            "  also b.c 5-5 utf16 (3) ",
-        ],
-    );
+    assert_each_told(&rt, OF_RESULTS)
 }

@@ -1,14 +1,19 @@
 //! Lines that tell a diagnostic, as the pages of their tools show them, and what is told of each.
 
 use crate::comparing::assert_text_of;
+use crate::showing::location_text;
 use ariadne_parse::{
-    Answer, Counting, Diagnostic, End, Format, Location, Reading, Sent, Span, Unit, parsed,
+    Answer, Counting, Diagnostic, End, Format, Location, OwnKind, Reading, Sent, Span, Unit, parsed,
 };
 use std::alloc::{AllocError, Global};
+use std::process::Abort;
 
-/// Lines, and what each tells: its file, where it points and up to where it goes, its severity and
-/// kind, its code, and its message. Of a line that tells nothing that is nothing.
-const LINES: &[(&str, &str)] = &[
+/// A line, and what it tells: its file, where it points and up to where it goes, its severity and kind, its code,
+/// and its message. Of a line that tells nothing that is nothing.
+type Line = (&'static str, &'static str);
+
+/// Lines of gcc, clang and javac.
+const COMPILERS: &[Line] = &[
     // gcc and clang
     (
         "a.c:3:7: warning: unused variable 'x' [-Wunused-variable]",
@@ -46,6 +51,10 @@ const LINES: &[(&str, &str)] = &[
         "A.java:17: warning: [rawtypes] found raw type: List",
         "A.java 17 Warning () () [rawtypes] found raw type: List",
     ),
+];
+
+/// Lines of mypy, GHC, cppcheck and flake8.
+const CHECKERS: &[Line] = &[
     // mypy, with --show-error-end, and GHC: the end is that of the last character
     (
         "a.py:8: error: Incompatible return value  [return-value]",
@@ -92,6 +101,10 @@ const LINES: &[(&str, &str)] = &[
     ),
     ("a.py:1: [E501] m", "a.py 1 Error () (E501) m"),
     ("a.c:3:4: X11 is gone", "a.c 3:4 Error () () X11 is gone"),
+];
+
+/// Lines of pylint, yamllint, rubocop, tsc and others.
+const LINTERS: &[Line] = &[
     // pylint, whose columns count from 0, and characters where its messages are about tokens
     (
         "a.py:3:0: C0303: Trailing whitespace (trailing-whitespace)",
@@ -140,6 +153,10 @@ const LINES: &[(&str, &str)] = &[
         "a.cpp(12): warning C4101: 'x': unreferenced local variable [a.vcxproj]",
         "a.cpp 12 Warning () (C4101) 'x': unreferenced local variable [a.vcxproj]",
     ),
+];
+
+/// Lines of eslint, Go's tools, rustc, erlc and others.
+const OTHERS: &[Line] = &[
     // eslint and Go's tools, which name no kinds
     (
         "/p/a.js:1:5: 'x' is assigned a value but never used. [Error/no-unused-vars]",
@@ -185,12 +202,18 @@ const LINES: &[(&str, &str)] = &[
     ),
 ];
 
-/// A location, as `LINE:COLUMN` or `LINE`.
-fn location_text(alloc: Global, location: Location) -> Result<String, AllocError> {
-    let line = location.line;
-    match location.column {
-        Some(column) => format!(in alloc; "{line}:{column}"),
-        None => format!(in alloc; "{line}"),
+/// A location behind a word.
+fn behind(alloc: Global, word: &str, location: Location) -> Result<String, AllocError> {
+    format!(in alloc; " {word} {}", location_text(alloc, location)?)
+}
+
+/// Where a span ends, or what its columns count.
+fn end_text(alloc: Global, span: &Span) -> Result<String, AllocError> {
+    match span.end {
+        End::Before(end) => behind(alloc, "before", end),
+        End::Behind(end) => behind(alloc, "behind", end),
+        End::OfWord if span.unit == Unit::Char => String::from_str(alloc, " in characters"),
+        End::OfWord => Ok(String::new(alloc)),
     }
 }
 
@@ -198,17 +221,15 @@ fn location_text(alloc: Global, location: Location) -> Result<String, AllocError
 fn span_text(alloc: Global, span: &Span) -> Result<String, AllocError> {
     let file = span.file.as_str();
     let start = location_text(alloc, span.caret)?;
-    match span.end {
-        End::Before(end) => format!(in alloc;
-            "{file} {start} before {}",
-            location_text(alloc, end)?
-        ),
-        End::Behind(end) => format!(in alloc;
-            "{file} {start} behind {}",
-            location_text(alloc, end)?
-        ),
-        End::OfWord if span.unit == Unit::Char => format!(in alloc; "{file} {start} in characters"),
-        End::OfWord => format!(in alloc; "{file} {start}"),
+    let end = end_text(alloc, span)?;
+    format!(in alloc; "{file} {start}{end}")
+}
+
+/// The name of a kind of its own; nothing where there is none.
+fn name_of(kind: Option<&OwnKind>) -> &str {
+    match kind {
+        Some(kind) => kind.name.as_str(),
+        None => "",
     }
 }
 
@@ -218,31 +239,40 @@ fn parsed_text(alloc: Global, it: &Diagnostic) -> Result<String, AllocError> {
         Some(span) => span_text(alloc, span)?,
         None => String::new(alloc),
     };
-    let name = it.own_kind.as_ref().map_or("", |kind| kind.name.as_str());
-    let code = it.code.as_ref().map_or("", |code| code.as_str());
+    let name = name_of(it.own_kind.as_ref());
+    let code = it.code.as_deref().unwrap_or("");
     let message = it.message.as_str();
     format!(in alloc; "{span} {:?} ({name}) ({code}) {message}", it.severity)
 }
 
+/// How the lines are read.
+pub const READING: Reading = Reading {
+    format: Format::Lines,
+    counting: Counting {
+        unit: Unit::Byte,
+        is_from_zero: false,
+    },
+};
+
 /// What a line tells, in one line; nothing where it tells nothing.
 fn line_text(alloc: Global, line: &str) -> Result<String, AllocError> {
-    let reading = Reading {
-        format: Format::Lines,
-        counting: Counting {
-            unit: Unit::Byte,
-            is_from_zero: false,
-        },
-    };
-    let mut sent = Sent::new(alloc);
-    match parsed(alloc, reading, &mut sent, line)? {
+    match parsed(alloc, READING, &mut Sent::new(alloc), line)? {
         Answer::Head(it) | Answer::Note(it) => parsed_text(alloc, &it),
         Answer::Nothing | Answer::Dropped | Answer::Diagnostics(_) => Ok(String::new(alloc)),
     }
 }
 
+/// Asserts what each line tells.
+fn assert_lines(rt: &(impl AllocGlobal + Abort), lines: &[Line]) {
+    for &(line, want) in lines {
+        assert_text_of(rt, line, line_text(rt.alloc(), line), want);
+    }
+}
+
 #[test]
 fn lines_of_tools(rt: HostRuntime) {
-    for (line, want) in LINES {
-        assert_text_of(&rt, *line, line_text(rt.alloc(), *line), *want);
-    }
+    assert_lines(&rt, COMPILERS);
+    assert_lines(&rt, CHECKERS);
+    assert_lines(&rt, LINTERS);
+    assert_lines(&rt, OTHERS)
 }

@@ -2,18 +2,16 @@
 //! each.
 
 use crate::comparing::{assert_same_of, assert_text_of};
+use crate::showing::location_text;
 use ariadne_parse::{
     Location, arrow_of, bare_head_of, front_of, has_escape, is_scope_line, is_tally, without_sgr,
 };
 use std::alloc::{AllocError, Global};
+use std::process::Abort;
 
 /// A span and what is said of it, in one line.
 fn span_text(alloc: Global, file: &str, start: Location, said: &str) -> Result<String, AllocError> {
-    let line = start.line;
-    match start.column {
-        Some(column) => format!(in alloc; "{file} {line}:{column} {said}"),
-        None => format!(in alloc; "{file} {line} {said}"),
-    }
+    format!(in alloc; "{file} {} {said}", location_text(alloc, start)?)
 }
 
 /// What a line in front of a diagnostic tells; nothing where it is none.
@@ -104,6 +102,13 @@ const ARROWS: &[(&str, &str)] = &[
     ("  |", ""),
 ];
 
+/// Asserts what each arrow points at.
+fn assert_arrows(rt: &(impl AllocGlobal + Abort)) {
+    for (line, want) in ARROWS {
+        assert_text_of(rt, *line, arrow_text(rt.alloc(), *line), *want);
+    }
+}
+
 /// Lines, each with what its kind alone tells.
 const HEADS: &[(&str, &str)] = &[
     (
@@ -122,14 +127,17 @@ const HEADS: &[(&str, &str)] = &[
     ("error:", ""),
 ];
 
+/// Asserts what each kind tells.
+fn assert_kinds(rt: &(impl AllocGlobal + Abort)) {
+    for (line, want) in HEADS {
+        assert_text_of(rt, *line, bare_text(rt.alloc(), *line), *want);
+    }
+}
+
 #[test]
 fn arrows_and_kinds_of_rustc(rt: HostRuntime) {
-    for (line, want) in ARROWS {
-        assert_text_of(&rt, *line, arrow_text(rt.alloc(), *line), *want);
-    }
-    for (line, want) in HEADS {
-        assert_text_of(&rt, *line, bare_text(rt.alloc(), *line), *want);
-    }
+    assert_arrows(&rt);
+    assert_kinds(&rt)
 }
 
 /// Lines, each with whether it counts what a tool told.

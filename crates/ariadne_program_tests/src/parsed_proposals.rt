@@ -1,10 +1,8 @@
 //! What rustc and gcc propose in their JSON, as changes of files.
 
 use crate::comparing::assert_text_of;
-use crate::showing::push_changes;
-use ariadne_parse::{
-    Answer, Change, Counting, Diagnostic, Format, Proposal, Reading, Sent, Unit, parsed,
-};
+use crate::showing::{push_made, ways_text};
+use ariadne_parse::{Answer, Counting, Diagnostic, Format, Proposal, Reading, Sent, Unit, parsed};
 use std::alloc::{AllocError, Global};
 
 /// Lines, and what each proposes, in a row each.
@@ -41,53 +39,53 @@ const LINES: &[(&str, &str)] = &[
     ),
 ];
 
-/// The ways of a proposal.
-fn ways_text(alloc: Global, ways: &[Vec<Change>]) -> Result<String, AllocError> {
-    let mut text = String::new(alloc);
-    for (number, way) in ways.iter().enumerate() {
-        if number != 0 {
-            text.push_str(" or")?;
-        }
-        push_changes(alloc, &mut text, way.as_slice())?;
+/// What the columns of a proposal count; nothing where that is characters.
+fn unit_text(it: &Proposal) -> &'static str {
+    match it.unit {
+        Unit::Byte if it.is_past_mark => " past mark",
+        Unit::Char if !it.is_past_mark => "",
+        _ => " in another unit",
     }
-    Ok(text)
 }
 
 /// A proposal in a row.
 fn proposal_text(alloc: Global, it: &Proposal) -> Result<String, AllocError> {
     let (first, last) = (it.helps.start, it.helps.end);
     let (file, why) = (it.file.as_str(), it.why.as_str());
-    let unit = match it.unit {
-        Unit::Byte if it.is_past_mark => " past mark",
-        Unit::Char if !it.is_past_mark => "",
-        _ => " in another unit",
-    };
+    let unit = unit_text(it);
     let ways = ways_text(alloc, it.ways.as_slice())?;
     format!(in alloc; "{first}..{last} {file}{unit} ({why}){ways}\n")
+}
+
+/// Adds what a diagnostic proposes, in a row each.
+fn push_proposals(alloc: Global, text: &mut String, all: &[Proposal]) -> Result<(), AllocError> {
+    for it in all {
+        push_made(text, proposal_text(alloc, it))?;
+    }
+    Ok(())
 }
 
 /// What diagnostics propose, in a row each.
 pub fn proposals_text(alloc: Global, all: &[Diagnostic]) -> Result<String, AllocError> {
     let mut text = String::new(alloc);
     for parsed in all {
-        for it in &parsed.proposals {
-            text.push_str(proposal_text(alloc, it)?.as_str())?;
-        }
+        push_proposals(alloc, &mut text, parsed.proposals.as_slice())?;
     }
     Ok(text)
 }
 
+/// How the lines are read.
+const READING: Reading = Reading {
+    format: Format::Auto,
+    counting: Counting {
+        unit: Unit::Byte,
+        is_from_zero: false,
+    },
+};
+
 /// What a line proposes.
 fn line_text(alloc: Global, line: &str) -> Result<String, AllocError> {
-    let reading = Reading {
-        format: Format::Auto,
-        counting: Counting {
-            unit: Unit::Byte,
-            is_from_zero: false,
-        },
-    };
-    let mut sent = Sent::new(alloc);
-    match parsed(alloc, reading, &mut sent, line)? {
+    match parsed(alloc, READING, &mut Sent::new(alloc), line)? {
         Answer::Diagnostics(all) => proposals_text(alloc, all.as_slice()),
         Answer::Nothing | Answer::Dropped | Answer::Head(_) | Answer::Note(_) => {
             Ok(String::new(alloc))

@@ -1,29 +1,43 @@
 //! Diagnostics as texts, to compare them.
 
+use crate::comparing::assert_same_of;
 use ariadne_documents::parsed_document;
 use ariadne_json::read_value;
 use ariadne_parse::{Change, Diagnostic, End, Location, Proposal, Span, Unit};
 use serde_json::Value;
 use std::alloc::{AllocError, Global};
 use std::process::Abort;
+use std::slice;
 
 /// What stands for a row behind the last one.
 const NO_ROW: &str = "no row";
 
-/// Asserts that a document in one line tells this, row by row.
-pub fn assert_told<R: Abort>(rt: &R, alloc: Global, document: &str, wanted: &[&str]) {
-    let found = document_text(alloc, document).expect(rt, "memory");
-    assert_rows(rt, found.as_str(), wanted);
+/// A document in one line, and what it tells, row by row.
+pub struct Told {
+    pub document: &'static str,
+    pub rows: &'static [&'static str],
 }
 
-/// Asserts that a text has these rows.
-pub fn assert_rows<R: Abort>(rt: &R, text: &str, wanted: &[&str]) {
+/// Asserts what each document tells.
+pub fn assert_each_told(rt: &(impl AllocGlobal + Abort), table: &[Told]) {
+    for it in table {
+        let found = document_text(rt.alloc(), it.document).expect(rt, "memory");
+        assert_rows(rt, it.document, found.as_str(), it.rows);
+    }
+}
+
+/// The next row, or what stands for none.
+fn next_row<'t>(rows: &mut slice::Iter<'_, &'t str>) -> &'t str {
+    rows.next().copied().unwrap_or(NO_ROW)
+}
+
+/// Asserts that the text of a document has these rows.
+pub fn assert_rows(rt: &impl Abort, document: &str, text: &str, wanted: &[&str]) {
     let mut rest = wanted.iter();
     for row in text.lines() {
-        let want = rest.next().copied().unwrap_or(NO_ROW);
-        assert_eq!(rt; row, want);
+        assert_same_of(rt, document, &row, &next_row(&mut rest));
     }
-    assert_eq!(rt; NO_ROW, rest.next().copied().unwrap_or(NO_ROW));
+    assert_same_of(rt, document, &NO_ROW, &next_row(&mut rest))
 }
 
 /// What a document tells, in rows.
@@ -42,6 +56,11 @@ pub fn value_text(alloc: Global, value: &Value) -> Result<String, AllocError> {
     }
 }
 
+/// Adds a text that was made.
+pub fn push_made(text: &mut String, made: Result<String, AllocError>) -> Result<(), AllocError> {
+    text.push_str(made?.as_str())
+}
+
 /// Diagnostics in rows.
 pub fn all_text(alloc: Global, all: &[Diagnostic]) -> Result<String, AllocError> {
     let mut text = String::new(alloc);
@@ -51,21 +70,26 @@ pub fn all_text(alloc: Global, all: &[Diagnostic]) -> Result<String, AllocError>
     Ok(text)
 }
 
+/// The first row of a diagnostic.
+fn head_text(alloc: Global, parsed: &Diagnostic) -> Result<String, AllocError> {
+    let message = parsed.message.as_str();
+    let code = parsed.code.as_deref().unwrap_or("");
+    format!(in alloc; "{:?} ({code}) {message}\n", parsed.severity)
+}
+
 /// Adds the rows of a diagnostic.
 fn push_parsed(alloc: Global, text: &mut String, parsed: &Diagnostic) -> Result<(), AllocError> {
-    let message = parsed.message.as_str();
-    let code = parsed.code.as_ref().map_or("", |code| code.as_str());
-    text.push_str(format!(in alloc; "{:?} ({code}) {message}\n", parsed.severity)?.as_str())?;
+    push_made(text, head_text(alloc, parsed))?;
     push_spans(alloc, text, parsed.spans.as_slice())?;
-    push_texts(alloc, text, "note", parsed.notes.as_slice())?;
-    push_texts(alloc, text, "help", parsed.helps.as_slice())?;
+    push_texts(text, "note", parsed.notes.as_slice())?;
+    push_texts(text, "help", parsed.helps.as_slice())?;
     push_proposals(alloc, text, parsed.proposals.as_slice())
 }
 
 /// Adds a row for each span.
 fn push_spans(alloc: Global, text: &mut String, spans: &[Span]) -> Result<(), AllocError> {
     for span in spans {
-        text.push_str(span_text(alloc, span)?.as_str())?;
+        push_made(text, span_text(alloc, span))?;
     }
     Ok(())
 }
@@ -101,7 +125,7 @@ fn end_text(alloc: Global, end: End) -> Result<String, AllocError> {
 }
 
 /// A location, as `LINE:COLUMN` or `LINE`.
-fn location_text(alloc: Global, location: Location) -> Result<String, AllocError> {
+pub fn location_text(alloc: Global, location: Location) -> Result<String, AllocError> {
     let line = location.line;
     match location.column {
         Some(column) => format!(in alloc; "{line}:{column}"),
@@ -110,46 +134,46 @@ fn location_text(alloc: Global, location: Location) -> Result<String, AllocError
 }
 
 /// Adds texts, each in a row behind a word.
-fn push_texts(
-    alloc: Global,
-    text: &mut String,
-    word: &str,
-    all: &[String],
-) -> Result<(), AllocError> {
+fn push_texts(text: &mut String, word: &str, all: &[String]) -> Result<(), AllocError> {
     for said in all {
-        push_text(alloc, text, word, said.as_str())?;
+        write!(text, "  {word} {said}\n")?;
     }
     Ok(())
-}
-
-/// Adds the row of a text behind a word.
-fn push_text(alloc: Global, text: &mut String, word: &str, said: &str) -> Result<(), AllocError> {
-    text.push_str(format!(in alloc; "  {word} {said}\n")?.as_str())
 }
 
 /// Adds a row for each proposal.
 fn push_proposals(alloc: Global, text: &mut String, all: &[Proposal]) -> Result<(), AllocError> {
     for it in all {
-        let (file, why) = (it.file.as_str(), it.why.as_str());
-        let helps = format!(in alloc; "{}..{}", it.helps.start, it.helps.end)?;
-        let unit = unit_text(it.unit);
-        text.push_str(format!(in alloc; "  fix {helps} {file} {unit}({why})")?.as_str())?;
-        for way in &it.ways {
-            push_changes(alloc, text, way.as_slice())?;
-        }
-        text.push('\n')?;
+        push_made(text, proposal_text(alloc, it))?;
     }
     Ok(())
 }
 
+/// The row of a proposal.
+fn proposal_text(alloc: Global, it: &Proposal) -> Result<String, AllocError> {
+    let (first, last) = (it.helps.start, it.helps.end);
+    let (file, why) = (it.file.as_str(), it.why.as_str());
+    let unit = unit_text(it.unit);
+    let ways = ways_text(alloc, it.ways.as_slice())?;
+    format!(in alloc; "  fix {first}..{last} {file} {unit}({why}){ways}\n")
+}
+
+/// The ways of a proposal, each behind another with an `or` in front.
+pub fn ways_text(alloc: Global, ways: &[Vec<Change>]) -> Result<String, AllocError> {
+    let mut text = String::new(alloc);
+    for (number, way) in ways.iter().enumerate() {
+        if number != 0 {
+            text.push_str(" or")?;
+        }
+        push_changes(alloc, &mut text, way.as_slice())?;
+    }
+    Ok(text)
+}
+
 /// Adds changes.
-pub fn push_changes(
-    alloc: Global,
-    text: &mut String,
-    changes: &[Change],
-) -> Result<(), AllocError> {
+fn push_changes(alloc: Global, text: &mut String, changes: &[Change]) -> Result<(), AllocError> {
     for change in changes {
-        text.push_str(change_text(alloc, change)?.as_str())?;
+        push_made(text, change_text(alloc, change))?;
     }
     Ok(())
 }
