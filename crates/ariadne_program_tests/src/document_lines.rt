@@ -1,8 +1,10 @@
 //! Which lines are a document that goes over many.
 
+use crate::comparing::assert_same_of;
 use ariadne_documents::{Document, Step, begins};
 use serde_json::Value;
 use std::alloc::{AllocError, Global};
+use std::process::Abort;
 
 /// Lines, each with whether it begins a document that goes on behind it.
 const FIRST: &[(&str, bool)] = &[
@@ -32,7 +34,7 @@ const FIRST: &[(&str, bool)] = &[
 #[test]
 fn lines_that_begin_a_document(rt: HostRuntime) {
     for (line, want) in FIRST {
-        assert_eq!(rt; begins(line.as_bytes()), *want, "of {line:?}");
+        assert_same_of(&rt, *line, &begins(line.as_bytes()), want);
     }
 }
 
@@ -55,49 +57,112 @@ fn taken(document: &mut Document, step: Option<Step>, line: &[u8]) -> Result<Ste
     }
 }
 
-/// The number of a value's members `a`.
-fn number_in(value: Option<Value>) -> u64 {
-    match value {
-        Some(value) => value.get("a").and_then(Value::as_u64).unwrap_or(0),
-        None => 0,
-    }
+/// The number that a value has as its member `a`.
+fn number_in(value: &Option<Value>) -> Option<u64> {
+    value.as_ref()?.get("a")?.as_u64()
 }
 
-/// The lines that are taken, and one that isn't, each with the last step and the number that the value has.
-const DOCUMENTS: &[(&str, &str, Step, u64)] = &[
-    ("{\n  \"a\": 7\n}\n", "", Step::Ended, 7),
-    ("{\n\n\t\"a\": 7\r\n}", "", Step::Ended, 7),
-    ("{\n  \"a\": 7,\n", "", Step::GoesOn, 0),
+/// Lines of a document, and what comes of them.
+struct Lines {
+    /// Those that are taken.
+    held: &'static str,
+    /// One that isn't, if there is one.
+    other: &'static str,
+    /// The last step.
+    step: Step,
+    /// The number that the value has.
+    number: u64,
+}
+
+const DOCUMENTS: &[Lines] = &[
+    Lines {
+        held: "{\n  \"a\": 7\n}\n",
+        other: "",
+        step: Step::Ended,
+        number: 7,
+    },
+    Lines {
+        held: "{\n\n\t\"a\": 7\r\n}",
+        other: "",
+        step: Step::Ended,
+        number: 7,
+    },
+    Lines {
+        held: "{\n  \"a\": 7,\n",
+        other: "",
+        step: Step::GoesOn,
+        number: 0,
+    },
     // brackets in texts are none
-    (
-        "{\n  \"b\": \"}]\\\"}\",\n  \"a\": 7\n}\n",
-        "",
-        Step::Ended,
-        7,
-    ),
+    Lines {
+        held: "{\n  \"b\": \"}]\\\"}\",\n  \"a\": 7\n}\n",
+        other: "",
+        step: Step::Ended,
+        number: 7,
+    },
     // a line that can't be one of it isn't taken
-    ("{\n", "a.c:1:2: error: m\n", Step::Broken, 0),
-    ("{\n", "  \"a\": \"\n", Step::Broken, 0),
+    Lines {
+        held: "{\n",
+        other: "a.c:1:2: error: m\n",
+        step: Step::Broken,
+        number: 0,
+    },
+    Lines {
+        held: "{\n",
+        other: "  \"a\": \"\n",
+        step: Step::Broken,
+        number: 0,
+    },
     // it ends, and serde_json refuses it
-    ("{\n  \"a\": 7,\n}\n", "", Step::Ended, 0),
-    ("[\n}\n", "", Step::Ended, 0),
+    Lines {
+        held: "{\n  \"a\": 7,\n}\n",
+        other: "",
+        step: Step::Ended,
+        number: 0,
+    },
+    Lines {
+        held: "[\n}\n",
+        other: "",
+        step: Step::Ended,
+        number: 0,
+    },
     // half a pair that stands alone is mended
-    (
-        "{\n  \"b\": \"\\ud800\",\n  \"a\": 7\n}\n",
-        "",
-        Step::Ended,
-        7,
-    ),
+    Lines {
+        held: "{\n  \"b\": \"\\ud800\",\n  \"a\": 7\n}\n",
+        other: "",
+        step: Step::Ended,
+        number: 7,
+    },
 ];
+
+/// Asserts that lines made this document, with this last step.
+fn assert_document(
+    rt: &(impl AllocGlobal + Abort),
+    it: &Lines,
+    document: &Document,
+    step: Option<Step>,
+) {
+    let value = document.value(rt.alloc()).expect(rt, "memory");
+    let number = number_in(&value).unwrap_or(0);
+    let found = (step, document.bytes(), number);
+    assert_same_of(
+        rt,
+        it.held,
+        &found,
+        &(Some(it.step), it.held.as_bytes(), it.number),
+    )
+}
+
+/// Asserts what comes of lines.
+fn assert_gathered(rt: &(impl AllocGlobal + Abort), it: &Lines) {
+    let text = [it.held, it.other].concat(rt.alloc()).expect(rt, "memory");
+    let (document, step) = gathered(rt.alloc(), text.as_str()).expect(rt, "memory");
+    assert_document(rt, it, &document, step)
+}
 
 #[test]
 fn documents_by_their_lines(rt: HostRuntime) {
-    for (held, other, step, number) in DOCUMENTS {
-        let text = [*held, *other].concat(rt.alloc()).expect(&rt, "memory");
-        let (document, found) = gathered(rt.alloc(), text.as_str()).expect(&rt, "memory");
-        assert_eq!(rt; found, Some(*step), "of {held:?}");
-        assert_eq!(rt; document.bytes(), held.as_bytes());
-        let value = document.value(rt.alloc()).expect(&rt, "memory");
-        assert_eq!(rt; number_in(value), *number, "of {held:?}");
+    for it in DOCUMENTS {
+        assert_gathered(&rt, it);
     }
 }
