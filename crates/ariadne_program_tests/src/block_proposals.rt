@@ -1,20 +1,13 @@
 //! What the rows that gcc and clang write for programs propose, as changes of files.
 
 use crate::comparing::assert_text_of;
+use crate::parsed_lines::READING;
 use crate::parsed_proposals::proposals_text;
 use ariadne_blocks::{Block, Line, QuotedFile};
-use ariadne_parse::{Answer, Columns, Counting, Diagnostic, Format, Reading, Sent, Unit, parsed};
+use ariadne_parse::{Answer, Columns, Diagnostic, Sent, Unit, parsed};
 use std::alloc::{AllocError, Global};
+use std::process::Abort;
 use std::slice;
-
-/// How the lines are read.
-const READING: Reading = Reading {
-    format: Format::Lines,
-    counting: Counting {
-        unit: Unit::Byte,
-        is_from_zero: false,
-    },
-};
 
 /// Lines of one diagnostic, and what they propose.
 const BLOCKS: &[(&[&str], &str)] = &[
@@ -138,17 +131,13 @@ fn caret_of(file: Option<QuotedFile<'_>>, it: &Diagnostic) -> Option<usize> {
     Some(columns.location_at(Unit::Char, offset).1.saturating_sub(1))
 }
 
-/// Takes in a line: as a note, or as a row.
-fn take(
+/// Takes in a line as a row.
+fn take_row(
     alloc: Global,
     block: &mut Block,
     file: Option<QuotedFile<'_>>,
     text: &str,
 ) -> Result<(), AllocError> {
-    if let Answer::Note(note) = parsed(alloc, READING, &mut Sent::new(alloc), text)? {
-        let caret = caret_of(file, &note);
-        return block.add_note(alloc, note, caret);
-    }
     let line = Line {
         bytes: text.as_bytes(),
         whole: text,
@@ -158,32 +147,95 @@ fn take(
     Ok(())
 }
 
-/// What the lines of a diagnostic propose.
+/// Takes in a line: as a note, or as a row.
+fn take(
+    alloc: Global,
+    block: &mut Block,
+    file: Option<QuotedFile<'_>>,
+    text: &str,
+) -> Result<(), AllocError> {
+    match parsed(alloc, READING, &mut Sent::new(alloc), text)? {
+        Answer::Note(note) => {
+            let caret = caret_of(file, &note);
+            block.add_note(alloc, note, caret)
+        }
+        _ => take_row(alloc, block, file, text),
+    }
+}
+
+/// Takes in lines.
+fn take_all(
+    alloc: Global,
+    block: &mut Block,
+    file: Option<QuotedFile<'_>>,
+    lines: &[&str],
+) -> Result<(), AllocError> {
+    for line in lines {
+        take(alloc, block, file, *line)?;
+    }
+    Ok(())
+}
+
+/// The block that a line begins, if it is the head of a diagnostic.
+fn block_of(
+    alloc: Global,
+    file: Option<QuotedFile<'_>>,
+    line: &str,
+) -> Result<Option<Block>, AllocError> {
+    match parsed(alloc, READING, &mut Sent::new(alloc), line)? {
+        Answer::Head(it) => {
+            let caret = caret_of(file, &it);
+            Block::new(alloc, it, line, caret).map(Some)
+        }
+        _ => Ok(None),
+    }
+}
+
+/// What a block proposes.
+fn finished_text(alloc: Global, block: Block) -> Result<String, AllocError> {
+    let (it, _) = block.finish();
+    proposals_text(alloc, slice::from_ref(&it))
+}
+
+/// What a block proposes after it has taken in lines.
+fn taken_text(
+    alloc: Global,
+    file: Option<QuotedFile<'_>>,
+    block: Block,
+    lines: &[&str],
+) -> Result<String, AllocError> {
+    let mut block = block;
+    take_all(alloc, &mut block, file, lines)?;
+    finished_text(alloc, block)
+}
+
+/// What the lines of a diagnostic propose; nothing where the first is no head of one.
 fn block_text(
     alloc: Global,
     file: Option<QuotedFile<'_>>,
     lines: &[&str],
 ) -> Result<String, AllocError> {
-    let Some((head, others)) = lines.split_first() else {
-        return Ok(String::new(alloc));
-    };
-    let Answer::Head(it) = parsed(alloc, READING, &mut Sent::new(alloc), *head)? else {
-        return Ok(String::new(alloc));
-    };
-    let caret = caret_of(file, &it);
-    let mut block = Block::new(alloc, it, *head, caret)?;
-    for text in others {
-        take(alloc, &mut block, file, *text)?;
+    let (head, others) = lines.split_first().unwrap_or((&"", &[]));
+    match block_of(alloc, file, *head)? {
+        Some(block) => taken_text(alloc, file, block, others),
+        None => Ok(String::new(alloc)),
     }
-    let (it, _) = block.finish();
-    proposals_text(alloc, slice::from_ref(&it))
+}
+
+/// Asserts what the lines of each diagnostic propose.
+fn assert_proposed(
+    rt: &(impl AllocGlobal + Abort),
+    file: Option<QuotedFile<'_>>,
+    table: &[(&[&str], &str)],
+) {
+    for &(lines, want) in table {
+        assert_text_of(rt, want, block_text(rt.alloc(), file, lines), want);
+    }
 }
 
 #[test]
 fn proposals_of_rows(rt: HostRuntime) {
-    for (lines, want) in BLOCKS {
-        assert_text_of(&rt, *want, block_text(rt.alloc(), None, *lines), *want);
-    }
+    assert_proposed(&rt, None, BLOCKS)
 }
 
 #[test]
@@ -194,12 +246,5 @@ fn proposals_of_rows_below_drawn_ones(rt: HostRuntime) {
         byte_unit: Unit::Byte,
         above: 0,
     };
-    for (lines, want) in QUOTING {
-        assert_text_of(
-            &rt,
-            *want,
-            block_text(rt.alloc(), Some(file), *lines),
-            *want,
-        );
-    }
+    assert_proposed(&rt, Some(file), QUOTING)
 }
