@@ -25,6 +25,8 @@ mod lint;
 #[cfg(test)]
 mod lint_refused;
 #[cfg(test)]
+mod one_file;
+#[cfg(test)]
 mod outcome;
 #[cfg(test)]
 mod parsed_lines;

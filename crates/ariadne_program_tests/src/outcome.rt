@@ -1,5 +1,6 @@
 //! What runs of the programs came to, and how it is compared.
 
+use crate::comparing::assert_same_of;
 use ariadne_testing::was_refused;
 use std::fmt::Debug;
 use std::process::Abort;
@@ -15,8 +16,8 @@ pub struct Outcome<S> {
 }
 
 /// Asserts that what was found where the nth request was refused is what is wanted.
-fn assert_same_at<T: Debug + PartialEq>(rt: &impl Abort, nth: usize, found: &T, wanted: &T) {
-    assert_eq!(rt; *found, *wanted, "at request {nth}")
+pub fn assert_same_at<T: Debug + PartialEq>(rt: &impl Abort, nth: usize, found: &T, wanted: &T) {
+    assert_same_of(rt, "a request", &(nth, found), &(nth, wanted))
 }
 
 impl<S: Copy + Debug + PartialEq> Outcome<S> {
@@ -42,6 +43,6 @@ impl<S: Copy + Debug + PartialEq> Outcome<S> {
 /// it was served.
 pub fn is_served(rt: &(impl AllocGlobal + Abort), nth: usize, is_ok: bool) -> bool {
     let is_served = !was_refused(rt.alloc());
-    assert!(rt; is_ok == is_served, "at request {nth}");
+    assert_same_at(rt, nth, &is_ok, &is_served);
     is_served
 }

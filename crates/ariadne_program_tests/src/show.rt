@@ -2,11 +2,13 @@
 
 ghost use Rattle.std.specs.Prelude.{◌<◌};
 
+use crate::comparing::assert_same_of;
+use crate::one_file::OneFile;
 use crate::outcome::Outcome;
 use ariadne_show::{
     FailOn, Fault, Options, Request, Status, Streams, Sum, Width, read_words, show, tell_fault,
 };
-use ariadne_testing::{Folder, Given, Taker, refuse, texts};
+use ariadne_testing::{Given, Taker, refuse, texts};
 use std::alloc::{AllocError, Global};
 use std::io::{BufReader, ErrorKind};
 use std::process::Abort;
@@ -59,9 +61,22 @@ pub fn run(
 {
     let words = texts(rt.alloc(), words).expect(rt, "memory");
     let options = options_of(rt, words.as_slice());
+    run_by(rt, &options, input, out, nth)
+}
+
+/// Does this by options that were read.
+fn run_by(
+    rt: &(impl Files + AllocGlobal + Abort),
+    options: &Options<'_>,
+    input: Given<'_>,
+    out: Taker,
+    nth: usize,
+) -> Outcome<Status>
+    requires { nth < 100000 }
+{
     let mut streams = streams_with(rt, out);
     refuse(rt.alloc(), nth);
-    let sum = shown(rt, &options, input, &mut streams);
+    let sum = shown(rt, options, input, &mut streams);
     outcome_of(sum, options.fail_on, streams, nth)
 }
 
@@ -119,10 +134,14 @@ const PLAIN: &[&[u8]] = &[
 ];
 
 #[test]
-fn what_tells_nothing_goes_through_as_it_is(rt: HostRuntime) {
+fn lines_that_tell_nothing_go_through(rt: HostRuntime) {
     for input in PLAIN {
         assert_shown(&rt, &[], *input, Status::Shown, *input)
     }
+}
+
+#[test]
+fn what_tells_nothing_goes_through_as_it_is(rt: HostRuntime) {
     let cut = b"caf\xe9\n\x1b\xff";
     assert_shown(&rt, &["--raw"], cut, Status::Shown, cut);
     let signs = "caf\u{fffd}\n\u{241b}\u{fffd}";
@@ -147,27 +166,37 @@ const LACKING: &[(&str, &str)] = &[
     ),
 ];
 
-/// Asserts that of a line about the file at this path this is shown.
-fn assert_told(rt: &(impl Files + AllocGlobal + Abort), path: &str, input: &str, want: &str) {
+/// Asserts that of lines about the file at this path this is shown, with its path for each `@`.
+pub fn assert_shown_of(
+    rt: &(impl Files + AllocGlobal + Abort),
+    path: &str,
+    words: &[&str],
+    input: &str,
+    want: &str,
+) {
     let input = with_path(rt.alloc(), input, path).expect(rt, "memory");
     let want = with_path(rt.alloc(), want, path).expect(rt, "memory");
     let (input, want) = (input.as_bytes(), want.as_bytes());
-    assert_shown(rt, &["--ascii"], input, Status::WithErrors, want)
+    assert_shown(rt, words, input, Status::WithErrors, want)
 }
 
-/// Asserts what is shown of each line about the file at this path.
-fn assert_lacking(rt: &(impl Files + AllocGlobal + Abort), path: &str) {
-    for (input, want) in LACKING {
-        assert_told(rt, path, *input, *want)
+/// Asserts what is shown of lines about the file at this path, each with what is wanted of it.
+pub fn assert_each_shown_of(
+    rt: &(impl Files + AllocGlobal + Abort),
+    path: &str,
+    words: &[&str],
+    table: &[(&str, &str)],
+) {
+    for &(input, want) in table {
+        assert_shown_of(rt, path, words, input, want)
     }
 }
 
 #[test]
 fn places_that_a_file_lacks_are_told(rt: HostRuntime) {
-    let folder = Folder::new(&rt).expect(&rt, "a folder");
-    let path = folder.file_of(&rt, "a", FILE).expect(&rt, "a file");
-    assert_lacking(&rt, path.as_str());
-    folder.remove(&rt).expect(&rt, "no folder")
+    let file = OneFile::new(&rt, "a", FILE);
+    assert_each_shown_of(&rt, file.path(), &["--ascii"], LACKING);
+    file.remove(&rt)
 }
 
 /// Asserts that of a reader that fails the line before the fault is shown, and that this is told.
@@ -214,22 +243,26 @@ fn a_writer_that_fails_at_each_call_holds_a_beginning(rt: HostRuntime) {
     }
 }
 
+/// Reads words, and tells why they ask for nothing.
+pub fn status_of_words(alloc: Global, words: &[String], faults: &mut Taker) -> Status {
+    match read_words(alloc, words) {
+        Ok(_) => Status::Shown,
+        Err(fault) => tell_fault(faults, &fault),
+    }
+}
+
 /// Asserts what is told of words that ask for nothing.
 fn assert_wrong(rt: &(impl AllocGlobal + Abort), words: &[&str], told: &str) {
-    let alloc = rt.alloc();
-    let words = texts(alloc, words).expect(rt, "memory");
-    let mut faults = Taker::whole(alloc).expect(rt, "memory");
-    let status = match read_words(alloc, words.as_slice()) {
-        Ok(_) => Status::Shown,
-        Err(fault) => tell_fault(&mut faults, &fault),
-    };
-    let outcome = Outcome {
-        nth: 0,
-        status,
-        out: Vec::new(alloc),
-        faults: faults.held,
-    };
-    outcome.assert_is(rt, Status::WrongWords, b"", told.as_bytes())
+    let words = texts(rt.alloc(), words).expect(rt, "memory");
+    let mut faults = Taker::whole(rt.alloc()).expect(rt, "memory");
+    let status = status_of_words(rt.alloc(), words.as_slice(), &mut faults);
+    let found = (status, faults.held.as_slice());
+    assert_same_of(
+        rt,
+        "the words",
+        &found,
+        &(Status::WrongWords, told.as_bytes()),
+    )
 }
 
 #[test]

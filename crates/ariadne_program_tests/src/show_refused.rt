@@ -3,12 +3,11 @@
 ghost use Rattle.std.specs.Prelude.{◌<◌};
 
 use crate::comparing::assert_same_of;
-use crate::outcome::Outcome;
-use crate::show::{FILE, options_of, outcome_of, run, streams_with, with_path};
-use ariadne_show::{
-    Environment, Fault, Input, Inputs, Options, Status, Streams, Sum, read_words, show, tell_fault,
-};
+use crate::outcome::{Outcome, assert_same_at};
+use crate::show::{FILE, options_of, outcome_of, run, status_of_words, streams_with, with_path};
+use ariadne_show::{Environment, Fault, Input, Inputs, Options, Status, Streams, Sum, show};
 use ariadne_testing::{Folder, Given, Taker, refuse, texts, was_refused};
+use std::alloc::{AllocError, Global};
 use std::io::BufReader;
 use std::process::Abort;
 use std::rt::{Env, Files};
@@ -88,6 +87,9 @@ const DOCUMENTS: &str =
 {
   a line\n";
 
+/// The names of its files.
+const FILES: &[&str] = &["a.c", "b.c", "b.py"];
+
 /// Words, with a `@` for the folder, by which all that is written of a diagnostic is written.
 const WORDS: &[&[&str]] = &[
     &["--ascii"],
@@ -106,12 +108,40 @@ fn are_uncut(shown: &[u8], rest: &[u8]) -> bool {
         || rest.starts_with(b"\n]")
 }
 
+/// What is found of a beginning that cuts no line.
+const UNCUT: &str = "whole lines";
+
 /// Asserts that what was shown is a beginning of the whole, and that no line was cut.
 fn assert_beginning(rt: &impl Abort, shown: &[u8], whole: &[u8], nth: usize) {
-    match whole.strip_prefix(shown) {
-        Some(rest) => assert!(rt; are_uncut(shown, rest), "at request {nth}"),
-        None => panic!(rt; "what was shown at request {nth} is no beginning"),
-    }
+    let found = match whole.strip_prefix(shown) {
+        Some(rest) if are_uncut(shown, rest) => UNCUT,
+        Some(_) => "a cut line",
+        None => "no beginning",
+    };
+    assert_same_at(rt, nth, &found, &UNCUT)
+}
+
+/// Asserts that a run with a request refused, which told that behind these bytes, cut no line.
+fn assert_uncut(
+    rt: &impl Abort,
+    outcome: &Outcome<Status>,
+    beside: &[u8],
+    whole: &Outcome<Status>,
+) {
+    outcome.assert_status(rt, Status::Failed);
+    assert_beginning(
+        rt,
+        outcome.out.as_slice(),
+        whole.out.as_slice(),
+        outcome.nth,
+    );
+    assert_beginning(rt, beside, whole.faults.as_slice(), outcome.nth)
+}
+
+/// Asserts that a run came to the same as another.
+fn assert_same_run(rt: &impl Abort, outcome: &Outcome<Status>, whole: &Outcome<Status>) {
+    let (out, faults) = (whole.out.as_slice(), whole.faults.as_slice());
+    outcome.assert_is(rt, whole.status, out, faults)
 }
 
 /// Asserts that a run with one request refused told that, and cut no line, or that it came to the same
@@ -123,25 +153,24 @@ fn is_whole(
 ) -> bool {
     let is_refused = was_refused(rt.alloc());
     match outcome.faults.as_slice().strip_suffix(NO_MEMORY) {
-        Some(beside) if is_refused => {
-            outcome.assert_status(rt, Status::Failed);
-            assert_beginning(
-                rt,
-                outcome.out.as_slice(),
-                whole.out.as_slice(),
-                outcome.nth,
-            );
-            assert_beginning(rt, beside, whole.faults.as_slice(), outcome.nth);
-        }
+        Some(beside) if is_refused => assert_uncut(rt, outcome, beside, whole),
         // A vector that is collected asks again, for less, where it was refused what it may need.
-        _ => outcome.assert_is(
-            rt,
-            whole.status,
-            whole.out.as_slice(),
-            whole.faults.as_slice(),
-        ),
+        _ => assert_same_run(rt, outcome, whole),
     }
     !is_refused
+}
+
+/// Words with this folder in place of each `@`.
+fn words_in<'a>(
+    alloc: Global,
+    words: &[&'a str],
+    folder: &'a str,
+) -> Result<Vec<&'a str>, AllocError> {
+    let mut own = Vec::new(alloc);
+    for word in words {
+        own.push(if *word == "@" { folder } else { *word })?;
+    }
+    Ok(own)
 }
 
 /// Shows what tools print, with this request refused, counted from 1, or with none where it is 0.
@@ -154,11 +183,7 @@ fn show_refused(
 ) -> Outcome<Status>
     requires { nth < 100000 }
 {
-    let mut own = Vec::new(rt.alloc());
-    for word in words {
-        own.push(if *word == "@" { folder } else { *word })
-            .expect(rt, "memory");
-    }
+    let own = words_in(rt.alloc(), words, folder).expect(rt, "memory");
     let input = with_path(rt.alloc(), printed, folder).expect(rt, "memory");
     let out = Taker::whole(rt.alloc()).expect(rt, "memory");
     run(rt, own.as_slice(), Given::whole(input.as_bytes()), out, nth)
@@ -181,17 +206,28 @@ fn refuse_each(
     panic!(rt; "a request was refused each time")
 }
 
+/// A folder with the files.
+fn folder_of_files(rt: &(impl Env + Files + AllocGlobal + Abort)) -> Folder {
+    let folder = Folder::new(rt).expect(rt, "a folder");
+    for name in FILES {
+        folder.file_of(rt, *name, FILE).expect(rt, "a file");
+    }
+    folder
+}
+
+/// Refuses each request of showing all of this in turn, of files in this folder.
+fn refuse_each_of_all(rt: &(impl Files + AllocGlobal + Abort), folder: &str) {
+    for words in WORDS {
+        refuse_each(rt, PRINTED, *words, folder)
+    }
+    refuse_each(rt, DOCUMENTS, &["--output", "short"], folder)
+}
+
 #[test]
 fn a_refused_request_is_told_and_no_line_is_cut(rt: HostRuntime) {
-    let folder = Folder::new(&rt).expect(&rt, "a folder");
-    for name in ["a.c", "b.c", "b.py"] {
-        folder.file_of(&rt, name, FILE).expect(&rt, "a file");
-    }
+    let folder = folder_of_files(&rt);
     let path = folder.path_of(&rt, ".").expect(&rt, "memory");
-    for words in WORDS {
-        refuse_each(&rt, PRINTED, *words, path.as_str())
-    }
-    refuse_each(&rt, DOCUMENTS, &["--output", "short"], path.as_str());
+    refuse_each_of_all(&rt, path.as_str());
     folder.remove(&rt).expect(&rt, "no folder")
 }
 
@@ -223,24 +259,28 @@ fn told_of_words(rt: &(impl AllocGlobal + Abort), words: &[String], nth: usize) 
 {
     let mut faults = Taker::whole(rt.alloc()).expect(rt, "memory");
     refuse(rt.alloc(), nth);
-    if let Err(fault) = read_words(rt.alloc(), words) {
-        tell_fault(&mut faults, &fault);
-    }
+    status_of_words(rt.alloc(), words, &mut faults);
     faults
+}
+
+/// Refuses the nth request of reading words. Where there is none this is told of them, and the result is
+/// true.
+fn is_read(rt: &(impl AllocGlobal + Abort), words: &[String], told: &[u8], nth: usize) -> bool
+    requires { nth < 100000 }
+{
+    let faults = told_of_words(rt, words, nth);
+    let is_refused = was_refused(rt.alloc());
+    let found = faults.held.as_slice();
+    let is_right = found == told || (is_refused && found == NO_MEMORY);
+    assert_same_at(rt, nth, &is_right, &true);
+    !is_refused
 }
 
 /// Refuses each request of reading words in turn, up to the one that there is none of.
 fn refuse_each_of_words(rt: &(impl AllocGlobal + Abort), words: &[&str], told: &[u8]) {
     let words = texts(rt.alloc(), words).expect(rt, "memory");
     for nth in 1..1000 {
-        let faults = told_of_words(rt, words.as_slice(), nth);
-        let is_refused = was_refused(rt.alloc());
-        let is_told = is_refused && faults.held.as_slice() == NO_MEMORY;
-        assert!(rt;
-            is_told || faults.held.as_slice() == told,
-            "at request {nth}"
-        );
-        if !is_refused {
+        if is_read(rt, words.as_slice(), told, nth) {
             return;
         }
     }
@@ -254,14 +294,13 @@ fn a_refused_request_of_reading_words_is_want_of_memory(rt: HostRuntime) {
     }
 }
 
-/// Shows what inputs tell, as the program does.
+/// Shows what inputs tell.
 fn shown_inputs(
-    rt: &(impl Env + Files + AllocGlobal + Abort),
+    rt: &(impl Files + AllocGlobal + Abort),
     options: &Options<'_>,
     inputs: &[Input<'_>],
     streams: &mut Streams<Taker, Taker>,
 ) -> Result<Sum, Fault> {
-    let _environment = Environment::of(rt)?;
     let inputs = Inputs::new(rt, rt.alloc(), Given::whole(b"a"), inputs);
     let mut input = match BufReader::new(rt.alloc(), inputs) {
         Ok(input) => input,
@@ -271,6 +310,17 @@ fn shown_inputs(
         Ok(sum) => Ok(sum),
         Err(fault) => Err(input.into_inner().into_fault().unwrap_or(fault)),
     }
+}
+
+/// Does this as the program does, which reads the environment first.
+fn shown_as_by_main(
+    rt: &(impl Env + Files + AllocGlobal + Abort),
+    options: &Options<'_>,
+    inputs: &[Input<'_>],
+    streams: &mut Streams<Taker, Taker>,
+) -> Result<Sum, Fault> {
+    let _environment = Environment::of(rt)?;
+    shown_inputs(rt, options, inputs, streams)
 }
 
 /// Shows what inputs tell, with this request refused, counted from 1, or with none where it is 0.
@@ -285,7 +335,7 @@ fn show_inputs_refused(
     let out = Taker::whole(rt.alloc()).expect(rt, "memory");
     let mut streams = streams_with(rt, out);
     refuse(rt.alloc(), nth);
-    let sum = shown_inputs(rt, &options, inputs, &mut streams);
+    let sum = shown_as_by_main(rt, &options, inputs, &mut streams);
     outcome_of(sum, options.fail_on, streams, nth)
 }
 

@@ -1,11 +1,8 @@
 //! Rows below a head of text that quote nothing: further rows of rustc's messages, and rows that tell programs what
 //! to change.
 
-use crate::show::{run, with_path};
-use ariadne_show::Status;
-use ariadne_testing::{Folder, Given, Taker};
-use std::process::Abort;
-use std::rt::Files;
+use crate::one_file::OneFile;
+use crate::show::assert_each_shown_of;
 
 /// What stands in the file of Rust.
 const RUST: &[u8] = b"old();\nlet x = 1;\n";
@@ -13,20 +10,8 @@ const RUST: &[u8] = b"old();\nlet x = 1;\n";
 /// What stands in the file of C.
 const C: &str = "int \u{e9} = p->feild\nreturn (int)x;\n";
 
-/// Asserts that of lines about the file at this path these are written, with its path for each `@`.
-fn assert_rows(rt: &(impl Files + AllocGlobal + Abort), path: &str, input: &str, want: &str) {
-    let input = with_path(rt.alloc(), input, path).expect(rt, "memory");
-    let want = with_path(rt.alloc(), want, path).expect(rt, "memory");
-    let out = Taker::whole(rt.alloc()).expect(rt, "memory");
-    let outcome = run(
-        rt,
-        &["--output", "short"],
-        Given::whole(input.as_bytes()),
-        out,
-        0,
-    );
-    outcome.assert_is(rt, Status::WithErrors, want.as_bytes(), b"")
-}
+/// Words by which diagnostics are written in lines.
+const WORDS: &[&str] = &["--output", "short"];
 
 /// Lines of rustc's short form, and what is written of them.
 const SHORT: &[(&str, &str)] = &[
@@ -58,12 +43,9 @@ const SHORT: &[(&str, &str)] = &[
 
 #[test]
 fn further_rows_of_messages_of_rustc(rt: HostRuntime) {
-    let folder = Folder::new(&rt).expect(&rt, "a folder");
-    let path = folder.file_of(&rt, "a.rs", RUST).expect(&rt, "a file");
-    for (input, want) in SHORT {
-        assert_rows(&rt, path.as_str(), *input, *want)
-    }
-    folder.remove(&rt).expect(&rt, "no folder")
+    let file = OneFile::new(&rt, "a.rs", RUST);
+    assert_each_shown_of(&rt, file.path(), WORDS, SHORT);
+    file.remove(&rt)
 }
 
 /// Lines with rows that tell programs what to change, and what is written of them.
@@ -126,12 +108,7 @@ const FIXES: &[(&str, &str)] = &[
 
 #[test]
 fn rows_that_tell_programs_what_to_change(rt: HostRuntime) {
-    let folder = Folder::new(&rt).expect(&rt, "a folder");
-    let path = folder
-        .file_of(&rt, "a.c", C.as_bytes())
-        .expect(&rt, "a file");
-    for (input, want) in FIXES {
-        assert_rows(&rt, path.as_str(), *input, *want)
-    }
-    folder.remove(&rt).expect(&rt, "no folder")
+    let file = OneFile::new(&rt, "a.c", C.as_bytes());
+    assert_each_shown_of(&rt, file.path(), WORDS, FIXES);
+    file.remove(&rt)
 }

@@ -1,28 +1,12 @@
 //! Pictures with what tools propose: lines before and after, or words where those can't be drawn.
 
-use crate::show::{run, with_path};
-use ariadne_show::Status;
-use ariadne_testing::{Folder, Given, Taker};
+use crate::one_file::OneFile;
+use crate::show::assert_shown_of;
 use std::process::Abort;
 use std::rt::Files;
 
 /// What stands in the file.
 const FILE: &[u8] = b"a = b;\nlet c = d;\n";
-
-/// Asserts that of lines about the file at this path this is drawn by these words, with its path for each `@`.
-fn assert_drawn(
-    rt: &(impl Files + AllocGlobal + Abort),
-    path: &str,
-    words: &[&str],
-    input: &str,
-    want: &str,
-) {
-    let input = with_path(rt.alloc(), input, path).expect(rt, "memory");
-    let want = with_path(rt.alloc(), want, path).expect(rt, "memory");
-    let out = Taker::whole(rt.alloc()).expect(rt, "memory");
-    let outcome = run(rt, words, Given::whole(input.as_bytes()), out, 0);
-    outcome.assert_is(rt, Status::WithErrors, want.as_bytes(), b"")
-}
 
 /// gcc's JSON of an error at the `d`, with fix-its at it and behind it.
 const TWO_FIXITS: &str =
@@ -58,15 +42,24 @@ const HELPS: &[(&[&str], &str)] = &[
     ),
 ];
 
+/// Asserts what these words draw in the place of its helps, with the file at this path.
+fn assert_helps(rt: &(impl Files + AllocGlobal + Abort), path: &str, words: &[&str], helps: &str) {
+    let want = format!(in rt.alloc(); "{PICTURE}{helps}").expect(rt, "memory");
+    assert_shown_of(rt, path, words, TWO_FIXITS, want.as_str())
+}
+
+/// Asserts what is drawn in the place of its helps by all words.
+fn assert_each_help(rt: &(impl Files + AllocGlobal + Abort), path: &str) {
+    for &(words, helps) in HELPS {
+        assert_helps(rt, path, words, helps)
+    }
+}
+
 #[test]
 fn proposals_are_drawn_where_their_rows_fit(rt: HostRuntime) {
-    let folder = Folder::new(&rt).expect(&rt, "a folder");
-    let path = folder.file_of(&rt, "a.c", FILE).expect(&rt, "a file");
-    for (words, helps) in HELPS {
-        let want = format!(in rt.alloc(); "{PICTURE}{helps}").expect(&rt, "memory");
-        assert_drawn(&rt, path.as_str(), *words, TWO_FIXITS, want.as_str())
-    }
-    folder.remove(&rt).expect(&rt, "no folder")
+    let file = OneFile::new(&rt, "a.c", FILE);
+    assert_each_help(&rt, file.path());
+    file.remove(&rt)
 }
 
 /// rustc's JSON of an error at the `b`, for which a help lists two texts.
@@ -80,11 +73,10 @@ const TWO_WAYS: &str =
 
 #[test]
 fn each_way_is_a_help_below_its_reason(rt: HostRuntime) {
-    let folder = Folder::new(&rt).expect(&rt, "a folder");
-    let path = folder.file_of(&rt, "a.rs", FILE).expect(&rt, "a file");
+    let file = OneFile::new(&rt, "a.rs", FILE);
     let want = "Error: m\n   ,-[ @:1:5 ]\n   |\n 1 | a = b;\n   |     ^  \n   | \n   | \
                 Help 1: try\n   |         1 - a = b;\n   |         1 + a = x;\n   | \n   | \
                 Help 2: try\n   |         1 - a = b;\n   |         1 + a = y;\n---'\n1 error\n";
-    assert_drawn(&rt, path.as_str(), &["--ascii"], TWO_WAYS, want);
-    folder.remove(&rt).expect(&rt, "no folder")
+    assert_shown_of(&rt, file.path(), &["--ascii"], TWO_WAYS, want);
+    file.remove(&rt)
 }
