@@ -4,6 +4,7 @@
 //! by hand.
 
 use crate::comparing::assert_same_of;
+use crate::showing::push_made;
 use ariadne_snippets::{Fix, FixKind, Label, Mark, Point, Snippet, Taken};
 use std::alloc::{AllocError, Global};
 use std::process::Abort;
@@ -11,41 +12,48 @@ use std::process::Abort;
 /// What stands in front of what is to be learned of the row above.
 const WANTED: &str = "=> ";
 
-/// The characters of a line with a number, from 1, if a file has it.
-fn line_of(
+/// The line of a file with a number, from 1, if it has one.
+fn line_of<'t>(file: &[&'t str], number: Option<usize>) -> Option<&'t str> {
+    file.get(number?.wrapping_sub(1)).copied()
+}
+
+/// The characters of the line of a file with a number, from 1, if it has one.
+fn source_of(
     alloc: Global,
     file: &[&str],
     number: Option<usize>,
 ) -> Result<Option<Vec<char>>, AllocError> {
-    let Some(number) = number else {
-        return Ok(None);
-    };
-    match file.get(number.wrapping_sub(1)) {
-        Some(line) => Ok(Some(line.chars().collect(alloc)?)),
+    match line_of(file, number) {
+        Some(line) => line.chars().collect(alloc).map(Some),
         None => Ok(None),
     }
 }
 
-/// Adds what a mark covers.
-fn push_mark(text: &mut String, mark: &Mark<'_>) -> Result<(), AllocError> {
+/// Where a mark ends: the line too, if it begins in another.
+fn end_text(alloc: Global, mark: &Mark<'_>) -> Result<String, AllocError> {
+    let Point { line, offset } = mark.end;
+    if line == mark.start.line {
+        format!(in alloc; "{offset}")
+    } else {
+        format!(in alloc; "{line}:{offset}")
+    }
+}
+
+/// What a mark covers.
+fn mark_text(alloc: Global, mark: &Mark<'_>) -> Result<String, AllocError> {
     let Point { line, offset } = mark.start;
     let further = if mark.goes_on { "+" } else { "" };
-    write!(text, " {further}{line}:{offset}..")?;
-    if mark.end.line != line {
-        let line = mark.end.line;
-        write!(text, "{line}:")?;
-    }
-    let end = mark.end.offset;
+    let end = end_text(alloc, mark)?;
     let caret = if mark.caret.is_some() { "^" } else { "" };
     let said = mark.text;
-    write!(text, "{end}{caret}{said}")
+    format!(in alloc; " {further}{line}:{offset}..{end}{caret}{said}")
 }
 
 /// What marks cover.
 fn marks_text(alloc: Global, marks: &[Mark<'_>]) -> Result<String, AllocError> {
     let mut text = String::new(alloc);
     for mark in marks {
-        push_mark(&mut text, mark)?;
+        push_made(&mut text, mark_text(alloc, mark))?;
     }
     Ok(text)
 }
@@ -61,58 +69,65 @@ fn labels_text(alloc: Global, labels: &[Label<'_>]) -> Result<String, AllocError
     Ok(text)
 }
 
+/// What is done at a place.
+fn kind_text(kind: FixKind) -> &'static str {
+    match kind {
+        FixKind::Put => "put",
+        FixKind::PutLine => "line",
+        FixKind::Become => "become",
+        FixKind::Remove => "remove",
+    }
+}
+
 /// What is to be changed.
 fn fixes_text(alloc: Global, fixes: &[Fix<'_>]) -> Result<String, AllocError> {
     let mut text = String::new(alloc);
     for fix in fixes {
-        let line = fix.at.line;
-        let offset = fix.at.offset;
+        let kind = kind_text(fix.kind);
+        let Point { line, offset } = fix.at;
         let said = fix.text;
-        let kind = match fix.kind {
-            FixKind::Put => "put",
-            FixKind::PutLine => "line",
-            FixKind::Become => "become",
-            FixKind::Remove => "remove",
-        };
         write!(text, " {kind} {line}:{offset} `{said}`")?;
     }
     Ok(text)
+}
+
+/// Where a range begins, behind the number of its mark.
+fn begun_text(alloc: Global, mark: usize, start: Point) -> Result<String, AllocError> {
+    let Point { line, offset } = start;
+    format!(in alloc; "begun {mark}={line}:{offset}")
+}
+
+/// A text behind a word.
+fn said_text(alloc: Global, word: &str, said: &str) -> Result<String, AllocError> {
+    format!(in alloc; "{word} {said}")
 }
 
 /// What is learned of a line.
 fn taken_text(alloc: Global, taken: &Taken<'_>) -> Result<String, AllocError> {
     match taken {
         Taken::NotOfSnippet => String::from_str(alloc, "no"),
-        Taken::Nothing => String::from_str(alloc, ""),
+        Taken::Nothing => Ok(String::new(alloc)),
         Taken::Ranges(marks) => marks_text(alloc, marks.as_slice()),
         Taken::Labels(labels) => labels_text(alloc, labels.as_slice()),
-        Taken::Begun(mark, start) => {
-            let line = start.line;
-            let offset = start.offset;
-            format!(in alloc; "begun {mark}={line}:{offset}")
-        }
+        Taken::Begun(mark, start) => begun_text(alloc, *mark, *start),
         Taken::Fixes(fixes) => fixes_text(alloc, fixes.as_slice()),
-        Taken::Note(said) => format!(in alloc; "note {said}"),
-        Taken::Help(said) => format!(in alloc; "help {said}"),
-        Taken::More(said) => format!(in alloc; "more {said}"),
-        Taken::At(span) => format!(in alloc; "at {span}"),
-        Taken::Elsewhere(span) => format!(in alloc; "elsewhere {span}"),
+        Taken::Note(said) => said_text(alloc, "note", said),
+        Taken::Help(said) => said_text(alloc, "help", said),
+        Taken::More(said) => said_text(alloc, "more", said),
+        Taken::At(span) => said_text(alloc, "at", span),
+        Taken::Elsewhere(span) => said_text(alloc, "elsewhere", span),
     }
 }
 
-/// What is learned of the next line.
+/// What is learned of the next row.
 fn learned(
     alloc: Global,
     snippet: &mut Snippet,
     file: &[&str],
-    line: &str,
+    row: &str,
 ) -> Result<String, AllocError> {
-    let source = line_of(alloc, file, snippet.quoted_number(line))?;
-    let taken = match &source {
-        Some(source) => snippet.take(line, Some(source.as_slice()))?,
-        None => snippet.take(line, None)?,
-    };
-    taken_text(alloc, &taken)
+    let source = source_of(alloc, file, snippet.quoted_number(row))?;
+    taken_text(alloc, &snippet.take(row, source.as_deref())?)
 }
 
 /// What a text tells of the row above the one of a number: what stands behind `=> `, or nothing.
@@ -120,6 +135,33 @@ fn wanted<'t>(rows: &[&'t str], number: usize) -> &'t str {
     match rows.get(number) {
         Some(row) => row.strip_prefix(WANTED).unwrap_or(""),
         None => "",
+    }
+}
+
+/// Asserts what is learned of the next row.
+fn assert_row(
+    rt: &(impl AllocGlobal + Abort),
+    file: &[&str],
+    snippet: &mut Snippet,
+    row: &str,
+    wanted: &str,
+) {
+    let found = learned(rt.alloc(), snippet, file, row).expect(rt, "memory");
+    assert_same_of(rt, row, &found.as_str().trim_start(), &wanted)
+}
+
+/// Asserts what is learned of each row of a text.
+fn assert_rows(
+    rt: &(impl AllocGlobal + Abort),
+    file: &[&str],
+    snippet: &mut Snippet,
+    rows: &[&str],
+) {
+    for number in 1..rows.len() {
+        let row = rows[number];
+        if !row.starts_with(WANTED) {
+            assert_row(rt, file, snippet, row, wanted(rows, number + 1));
+        }
     }
 }
 
@@ -133,16 +175,7 @@ pub fn assert_learned(
     text: &str,
 ) {
     let mut snippet = Snippet::new(rt.alloc(), line, caret);
-    let rows: Vec<&str> = text
-        .split_terminator('\n')
-        .collect(rt.alloc())
-        .expect(rt, "memory");
-    for (number, row) in rows.iter().enumerate().skip(1) {
-        if row.starts_with(WANTED) {
-            continue;
-        }
-        let found = learned(rt.alloc(), &mut snippet, file, *row).expect(rt, "memory");
-        let wanted = wanted(rows.as_slice(), number + 1);
-        assert_same_of(rt, *row, &found.as_str().trim_start(), &wanted);
-    }
+    let lines = text.split_terminator('\n');
+    let rows: Vec<&str> = lines.collect(rt.alloc()).expect(rt, "memory");
+    assert_rows(rt, file, &mut snippet, rows.as_slice())
 }
