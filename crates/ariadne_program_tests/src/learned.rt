@@ -12,6 +12,18 @@ use std::process::Abort;
 /// What stands in front of what is to be learned of the row above.
 const WANTED: &str = "=> ";
 
+/// Rows behind the head of a span, and what is to be learned of them.
+pub struct Rows {
+    /// The lines of the file that they quote.
+    pub file: &'static [&'static str],
+    /// The line of the head, from 1.
+    pub line: usize,
+    /// The character of the line that the head names, from 0, if it names one.
+    pub caret: Option<usize>,
+    /// The rows, as `assert_learned` takes them.
+    pub text: &'static str,
+}
+
 /// The line of a file with a number, from 1, if it has one.
 fn line_of<'t>(file: &[&'t str], number: Option<usize>) -> Option<&'t str> {
     file.get(number?.wrapping_sub(1)).copied()
@@ -178,4 +190,11 @@ pub fn assert_learned(
     let lines = text.split_terminator('\n');
     let rows: Vec<&str> = lines.collect(rt.alloc()).expect(rt, "memory");
     assert_rows(rt, file, &mut snippet, rows.as_slice())
+}
+
+/// Asserts what is learned of the rows of each case.
+pub fn assert_each_learned(rt: &(impl AllocGlobal + Abort), cases: &[Rows]) {
+    for case in cases {
+        assert_learned(rt, case.file, case.line, case.caret, case.text);
+    }
 }

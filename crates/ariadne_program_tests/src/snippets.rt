@@ -1,6 +1,6 @@
 //! Lines of snippets as gcc, clang and others write them, and beside each what is to be learned of it.
 
-use crate::learned::assert_learned;
+use crate::learned::{Rows, assert_each_learned, assert_learned};
 use std::process::Abort;
 
 /// A file of C.
@@ -16,14 +16,13 @@ const C: &[&str] = &[
     "    return strlen(n) + undeclared;",
 ];
 
-#[test]
-fn ranges_labels_and_fixes_of_gcc(rt: HostRuntime) {
-    assert_learned(
-        &rt,
-        C,
-        5,
-        Some(19),
-        r"
+/// Rows of gcc with ranges, labels and fixes.
+const GCC: &[Rows] = &[
+    Rows {
+        file: C,
+        line: 5,
+        caret: Some(19),
+        text: r"
     5 |         int x = p->color + n;
       |                    ^~~~~
 => 5:12..17^
@@ -32,24 +31,22 @@ fn ranges_labels_and_fixes_of_gcc(rt: HostRuntime) {
 a.c:6:26: error: invalid operands
 => no
 ",
-    );
-    assert_learned(
-        &rt,
-        C,
-        7,
-        Some(21),
-        r"
+    },
+    Rows {
+        file: C,
+        line: 7,
+        caret: Some(21),
+        text: r"
     7 |         if (n = 3) return x     + s;
       |                           ~~~~~~^~~
 => 7:19..24^
 ",
-    );
-    assert_learned(
-        &rt,
-        C,
-        8,
-        Some(13),
-        r#"
+    },
+    Rows {
+        file: C,
+        line: 8,
+        caret: Some(13),
+        text: r#"
     8 |     printf("%s %d\n", n, "é");
       |             ~^        ~
 => 8:12..14^ 8:22..23
@@ -59,19 +56,23 @@ a.c:6:26: error: invalid operands
       |             %d
 => put 8:12 `%d`
 "#,
-    );
-    assert_learned(
-        &rt,
-        C,
-        2,
-        Some(0),
-        r"
+    },
+    Rows {
+        file: C,
+        line: 2,
+        caret: Some(0),
+        text: r"
     1 | #include <string.h>
   +++ |+#include <stdio.h>
 => line 2:0 `#include <stdio.h>`
     2 | struct point { int colour; int y; };
 ",
-    );
+    },
+];
+
+#[test]
+fn ranges_labels_and_fixes_of_gcc(rt: HostRuntime) {
+    assert_each_learned(&rt, GCC)
 }
 
 #[test]
@@ -145,27 +146,31 @@ fn ranges_over_lines_of_gcc(rt: HostRuntime) {
     );
 }
 
-#[test]
-fn ranges_and_fixes_of_clang(rt: HostRuntime) {
-    assert_learned(
-        &rt,
-        C,
-        6,
-        Some(23),
-        r#"
+/// A file of C whose first line has characters that clang shows by their numbers.
+const HIDDEN: &[&str] = &[
+    "int a\u{c}b = \"x\u{1}\u{7f}\u{200b}\u{202e}\";  ",
+    "int x;",
+];
+
+/// Rows of clang with ranges and fixes.
+const CLANG: &[Rows] = &[
+    Rows {
+        file: C,
+        line: 6,
+        caret: Some(23),
+        text: r#"
     char *s = "漢字" + n * p;
                        ~ ^ ~
 => 6:21..22 6:23..24^ 6:25..26
 a.c:7:8: warning: using
 => no
 "#,
-    );
-    assert_learned(
-        &rt,
-        C,
-        7,
-        Some(7),
-        r"
+    },
+    Rows {
+        file: C,
+        line: 7,
+        caret: Some(7),
+        text: r"
         if (n = 3) return x     + s;
               ^
 => 7:7..8^
@@ -174,56 +179,52 @@ a.c:7:8: warning: using
             (    )
 => no
 ",
-    );
-    assert_learned(
-        &rt,
-        C,
-        5,
-        Some(12),
-        r"
+    },
+    Rows {
+        file: C,
+        line: 5,
+        caret: Some(12),
+        text: r"
     return strlen(n) + undeclared;
 => no
 ",
-    );
-    let file = [
-        "int a\u{c}b = \"x\u{1}\u{7f}\u{200b}\u{202e}\";  ",
-        "int x;",
-    ];
-    assert_learned(
-        &rt,
-        &file,
-        1,
-        Some(5),
-        r#"
+    },
+    Rows {
+        file: HIDDEN,
+        line: 1,
+        caret: Some(5),
+        text: r#"
 int a<U+000C>b = "x<U+0001><U+007F><U+200B><U+202E>";
      ^
 => 1:5..6^
      ;
 => put 1:5 `;`
 "#,
-    );
-    assert_learned(
-        &rt,
-        &file,
-        2,
-        Some(6),
-        r"
+    },
+    Rows {
+        file: HIDDEN,
+        line: 2,
+        caret: Some(6),
+        text: r"
 int x;
       ^
 => 2:6..7^
 ",
-    );
-}
+    },
+];
 
 #[test]
-fn ranges_of_others(rt: HostRuntime) {
-    let java = ["\t\tint x = s;\tint y = \"é漢\" + undefined;"];
-    assert_learned(
-        &rt,
-        &java,
-        1,
-        None,
-        "
+fn ranges_and_fixes_of_clang(rt: HostRuntime) {
+    assert_each_learned(&rt, CLANG)
+}
+
+/// Rows of other tools with ranges.
+const OTHERS: &[Rows] = &[
+    Rows {
+        file: &["\t\tint x = s;\tint y = \"é漢\" + undefined;"],
+        line: 1,
+        caret: None,
+        text: "
 \t\tint x = s;\tint y = \"é漢\" + undefined;
 \t\t          \t               ^
 => 1:28..29^
@@ -234,38 +235,32 @@ fn ranges_of_others(rt: HostRuntime) {
 B.java:5: error: incompatible types
 => no
 ",
-    );
-    let cpp = ["\tstd::string s = 5 + \"é\"; const char *z = s;"];
-    assert_learned(
-        &rt,
-        &cpp,
-        1,
-        Some(40),
-        r#"
+    },
+    Rows {
+        file: &["\tstd::string s = 5 + \"é\"; const char *z = s;"],
+        line: 1,
+        caret: Some(40),
+        text: r#"
  std::string s = 5 + "é"; const char *z = s;
                                          ^
 => 1:40..41^
 "#,
-    );
-    let python = ["def f():", "\tx: int = \"a\""];
-    assert_learned(
-        &rt,
-        &python,
-        2,
-        Some(10),
-        r#"
+    },
+    Rows {
+        file: &["def f():", "\tx: int = \"a\""],
+        line: 2,
+        caret: Some(10),
+        text: r#"
             x: int = "a"
                      ^~~
 => 2:10..13^
 "#,
-    );
-    let erlang = ["f(X) -> Y = 1, Z."];
-    assert_learned(
-        &rt,
-        &erlang,
-        1,
-        Some(15),
-        r"
+    },
+    Rows {
+        file: &["f(X) -> Y = 1, Z."],
+        line: 1,
+        caret: Some(15),
+        text: r"
 %    1| f(X) -> Y = 1, Z.
 %     |                ^
 => 1:15..16^
@@ -273,7 +268,12 @@ B.java:5: error: incompatible types
 
 => no
 ",
-    );
+    },
+];
+
+#[test]
+fn ranges_of_others(rt: HostRuntime) {
+    assert_each_learned(&rt, OTHERS)
 }
 
 #[test]
@@ -376,14 +376,12 @@ fn marks_in_white_space_of_mypy(rt: HostRuntime) {
 }
 
 /// A note of clang-tidy and g++ may name no span: it stands behind marks, or behind what is to be put there.
-#[test]
-fn notes_without_a_span(rt: HostRuntime) {
-    assert_learned(
-        &rt,
-        &["    if (n > 3)"],
-        1,
-        Some(14),
-        r"
+const NOTES: &[Rows] = &[
+    Rows {
+        file: &["    if (n > 3)"],
+        line: 1,
+        caret: Some(14),
+        text: r"
     if (n > 3)
               ^
 => 1:14..15^
@@ -394,13 +392,12 @@ note: this fix will not be applied because it overlaps with another fix
                {
 => no
 ",
-    );
-    assert_learned(
-        &rt,
-        &["    show(1);"],
-        1,
-        Some(8),
-        r"
+    },
+    Rows {
+        file: &["    show(1);"],
+        line: 1,
+        caret: Some(8),
+        text: r"
     1 |     show(1);
       |     ~~~~^~~
 => 1:4..11^
@@ -411,18 +408,22 @@ cc1: note: set more
       |     ~~~~^~~
 => no
 ",
-    );
-    assert_learned(
-        &rt,
-        &["    show(1);"],
-        1,
-        Some(8),
-        r"
+    },
+    Rows {
+        file: &["    show(1);"],
+        line: 1,
+        caret: Some(8),
+        text: r"
     show(1);
 note: this fix will not be applied because it overlaps with another fix
 => no
 ",
-    );
+    },
+];
+
+#[test]
+fn notes_without_a_span(rt: HostRuntime) {
+    assert_each_learned(&rt, NOTES)
 }
 
 /// Where events share a mark, one bar stands above all of them.
@@ -507,51 +508,51 @@ a.c:1:2: error: m
 }
 
 /// clang doesn't quote a line that has nothing, and cppcheck quotes nothing where its head names no line.
-#[test]
-fn marks_below_nothing(rt: HostRuntime) {
-    assert_learned(
-        &rt,
-        &["a", ""],
-        2,
-        Some(0),
-        r"
+const BELOW_NOTHING: &[Rows] = &[
+    Rows {
+        file: &["a", ""],
+        line: 2,
+        caret: Some(0),
+        text: r"
 ^
 => 2:0..1^
 ",
-    );
-    assert_learned(
-        &rt,
-        &["a", ""],
-        1,
-        Some(0),
-        r"
+    },
+    Rows {
+        file: &["a", ""],
+        line: 1,
+        caret: Some(0),
+        text: r"
 ^
 => no
 ",
-    );
-    assert_learned(
-        &rt,
-        &["a"],
-        0,
-        None,
-        r"
+    },
+    Rows {
+        file: &["a"],
+        line: 0,
+        caret: None,
+        text: r"
 
 ^
 ^
 => no
 ",
-    );
-    assert_learned(
-        &rt,
-        &["a"],
-        0,
-        None,
-        r"
+    },
+    Rows {
+        file: &["a"],
+        line: 0,
+        caret: None,
+        text: r"
 
 a
 => no
 ",
-    );
+    },
+];
+
+#[test]
+fn marks_below_nothing(rt: HostRuntime) {
+    assert_each_learned(&rt, BELOW_NOTHING)
 }
 
 /// Where clang names ranges in its heads, a blank stands in front of the quote and of the marks.
@@ -688,11 +689,16 @@ const WHOLE_ROWS: &[(&str, &str)] = &[
     (" \r", "7 |  \r"),
 ];
 
+/// Asserts that a first row shows the seventh line of a file whole.
+fn assert_whole(rt: &(impl AllocGlobal + Abort), line: &str, row: &str) {
+    let text = format!(in rt.alloc(); "\n{row}\n").expect(rt, "memory");
+    assert_learned(rt, &["", "", "", "", "", "", line], 7, None, text.as_str())
+}
+
 #[test]
 fn lines_that_a_first_row_shows_whole(rt: HostRuntime) {
     for &(line, row) in WHOLE_ROWS {
-        let text = format!(in rt.alloc(); "\n{row}\n").expect(&rt, "memory");
-        assert_learned(&rt, &["", "", "", "", "", "", line], 7, None, text.as_str());
+        assert_whole(&rt, line, row);
     }
 }
 

@@ -1,6 +1,6 @@
 //! Lines of snippets as rustc writes them, and beside each what is to be learned of it.
 
-use crate::learned::assert_learned;
+use crate::learned::{Rows, assert_each_learned, assert_learned};
 
 /// A file of Rust.
 const RUST: &[&str] = &[
@@ -169,53 +169,56 @@ fn texts_between_marks_of_rustc(rt: HostRuntime) {
     );
 }
 
-#[test]
-fn parts_of_lines(rt: HostRuntime) {
-    let file = ["    let aaaa = 1; let bbbb: i32 = \"cccc\"; let dddd = 2;"];
-    assert_learned(
-        &rt,
-        &file,
-        1,
-        Some(34),
-        r#"
+/// A file of one line.
+const LETS: &[&str] = &["    let aaaa = 1; let bbbb: i32 = \"cccc\"; let dddd = 2;"];
+
+/// Rows with parts of it.
+const PARTS: &[Rows] = &[
+    Rows {
+        file: LETS,
+        line: 1,
+        caret: Some(34),
+        text: r#"
   |
 1 | ... bbbb: i32 = "cccc"; let dddd = 2;
   |           ---   ^^^^^^ expected
 => 1:28..31 1:34..40^expected
 "#,
-    );
-    assert_learned(
-        &rt,
-        &file,
-        1,
-        Some(34),
-        r#"
+    },
+    Rows {
+        file: LETS,
+        line: 1,
+        caret: Some(34),
+        text: r#"
     ... bbbb: i32 = "cccc"; l...
                     ^~~~~~~~...
 => 1:34..42^
 "#,
-    );
-    assert_learned(
-        &rt,
-        &file,
-        1,
-        Some(8),
-        r"
+    },
+    Rows {
+        file: LETS,
+        line: 1,
+        caret: Some(8),
+        text: r"
     let aaaa = 1; ...
         ^~~~
 => 1:8..12^
 ",
-    );
-    assert_learned(
-        &rt,
-        &file,
-        1,
-        Some(8),
-        r"
+    },
+    Rows {
+        file: LETS,
+        line: 1,
+        caret: Some(8),
+        text: r"
     ...let b...
 => no
 ",
-    );
+    },
+];
+
+#[test]
+fn parts_of_lines(rt: HostRuntime) {
+    assert_each_learned(&rt, PARTS)
 }
 
 #[test]
