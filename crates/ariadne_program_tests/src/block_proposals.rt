@@ -1,10 +1,10 @@
 //! What the rows that gcc and clang write for programs propose, as changes of files.
 
 use crate::comparing::assert_text_of;
-use crate::parsed_lines::READING;
+use crate::parsed_lines::answer_of;
 use crate::parsed_proposals::proposals_text;
 use ariadne_blocks::{Block, Line, QuotedFile};
-use ariadne_parse::{Answer, Columns, Diagnostic, Sent, Unit, parsed};
+use ariadne_parse::{Answer, Columns, Diagnostic, Unit};
 use std::alloc::{AllocError, Global};
 use std::process::Abort;
 use std::slice;
@@ -147,6 +147,17 @@ fn take_row(
     Ok(())
 }
 
+/// Takes in a note.
+fn take_note(
+    alloc: Global,
+    block: &mut Block,
+    file: Option<QuotedFile<'_>>,
+    note: Diagnostic,
+) -> Result<(), AllocError> {
+    let caret = caret_of(file, &note);
+    block.add_note(alloc, note, caret)
+}
+
 /// Takes in a line: as a note, or as a row.
 fn take(
     alloc: Global,
@@ -154,11 +165,8 @@ fn take(
     file: Option<QuotedFile<'_>>,
     text: &str,
 ) -> Result<(), AllocError> {
-    match parsed(alloc, READING, &mut Sent::new(alloc), text)? {
-        Answer::Note(note) => {
-            let caret = caret_of(file, &note);
-            block.add_note(alloc, note, caret)
-        }
+    match answer_of(alloc, text)? {
+        Answer::Note(note) => take_note(alloc, block, file, note),
         _ => take_row(alloc, block, file, text),
     }
 }
@@ -176,21 +184,6 @@ fn take_all(
     Ok(())
 }
 
-/// The block that a line begins, if it is the head of a diagnostic.
-fn block_of(
-    alloc: Global,
-    file: Option<QuotedFile<'_>>,
-    line: &str,
-) -> Result<Option<Block>, AllocError> {
-    match parsed(alloc, READING, &mut Sent::new(alloc), line)? {
-        Answer::Head(it) => {
-            let caret = caret_of(file, &it);
-            Block::new(alloc, it, line, caret).map(Some)
-        }
-        _ => Ok(None),
-    }
-}
-
 /// What a block proposes.
 fn finished_text(alloc: Global, block: Block) -> Result<String, AllocError> {
     let (it, _) = block.finish();
@@ -205,8 +198,22 @@ fn taken_text(
     lines: &[&str],
 ) -> Result<String, AllocError> {
     let mut block = block;
-    take_all(alloc, &mut block, file, lines)?;
-    finished_text(alloc, block)
+    let taken = take_all(alloc, &mut block, file, lines);
+    let text = finished_text(alloc, block);
+    taken.and(text)
+}
+
+/// What a diagnostic proposes, behind whose head stand lines.
+fn diagnostic_text(
+    alloc: Global,
+    file: Option<QuotedFile<'_>>,
+    it: Diagnostic,
+    head: &str,
+    lines: &[&str],
+) -> Result<String, AllocError> {
+    let caret = caret_of(file, &it);
+    let block = Block::new(alloc, it, head, caret)?;
+    taken_text(alloc, file, block, lines)
 }
 
 /// What the lines of a diagnostic propose; nothing where the first is no head of one.
@@ -216,9 +223,9 @@ fn block_text(
     lines: &[&str],
 ) -> Result<String, AllocError> {
     let (head, others) = lines.split_first().unwrap_or((&"", &[]));
-    match block_of(alloc, file, *head)? {
-        Some(block) => taken_text(alloc, file, block, others),
-        None => Ok(String::new(alloc)),
+    match answer_of(alloc, *head)? {
+        Answer::Head(it) => diagnostic_text(alloc, file, it, *head, others),
+        _ => Ok(String::new(alloc)),
     }
 }
 

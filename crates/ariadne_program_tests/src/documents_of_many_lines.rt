@@ -107,11 +107,19 @@ fn answer_text(alloc: Global, answer: &Answer) -> Result<String, AllocError> {
     }
 }
 
+/// The same of an answer that is given away.
+fn owned_text(alloc: Global, answer: Answer) -> Result<String, AllocError> {
+    answer_text(alloc, &answer)
+}
+
+/// The answer to a whole document.
+fn answer_to(alloc: Global, document: &Document) -> Result<Answer, AllocError> {
+    document_answer(alloc, Format::Auto, &mut Sent::new(alloc), document)
+}
+
 /// What a whole document tells, in rows.
 fn document_text(alloc: Global, document: &Document) -> Result<String, AllocError> {
-    let mut sent = Sent::new(alloc);
-    let answer = document_answer(alloc, Format::Auto, &mut sent, document)?;
-    answer_text(alloc, &answer)
+    owned_text(alloc, answer_to(alloc, document)?)
 }
 
 /// What a text tells that is one document, in rows.
@@ -191,15 +199,22 @@ const LINES: &[(Format, &str, &[&str])] = &[
     (Format::Auto, "a.c:1:2: error: m", &["a head"]),
 ];
 
+/// How columns are counted.
+const COUNTING: Counting = Counting {
+    unit: Unit::Byte,
+    is_from_zero: false,
+};
+
+/// The answer to a line in a form.
+fn line_answer_of(alloc: Global, format: Format, line: &str) -> Result<Answer, AllocError> {
+    let counting = COUNTING;
+    let reading = Reading { format, counting };
+    line_answer(alloc, reading, &mut Sent::new(alloc), line)
+}
+
 /// What a line tells in a form, in rows.
 fn line_text(alloc: Global, format: Format, line: &str) -> Result<String, AllocError> {
-    let counting = Counting {
-        unit: Unit::Byte,
-        is_from_zero: false,
-    };
-    let reading = Reading { format, counting };
-    let mut sent = Sent::new(alloc);
-    answer_text(alloc, &line_answer(alloc, reading, &mut sent, line)?)
+    owned_text(alloc, line_answer_of(alloc, format, line)?)
 }
 
 #[test]

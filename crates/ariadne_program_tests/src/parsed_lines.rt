@@ -246,7 +246,7 @@ fn parsed_text(alloc: Global, it: &Diagnostic) -> Result<String, AllocError> {
 }
 
 /// How the lines are read.
-pub const READING: Reading = Reading {
+const READING: Reading = Reading {
     format: Format::Lines,
     counting: Counting {
         unit: Unit::Byte,
@@ -254,9 +254,14 @@ pub const READING: Reading = Reading {
     },
 };
 
+/// The answer to a line alone.
+pub fn answer_of(alloc: Global, line: &str) -> Result<Answer, AllocError> {
+    parsed(alloc, READING, &mut Sent::new(alloc), line)
+}
+
 /// What a line tells, in one line; nothing where it tells nothing.
 fn line_text(alloc: Global, line: &str) -> Result<String, AllocError> {
-    match parsed(alloc, READING, &mut Sent::new(alloc), line)? {
+    match answer_of(alloc, line)? {
         Answer::Head(it) | Answer::Note(it) => parsed_text(alloc, &it),
         Answer::Nothing | Answer::Dropped | Answer::Diagnostics(_) => Ok(String::new(alloc)),
     }
