@@ -10,7 +10,7 @@ use ariadne_show::{
 };
 use ariadne_testing::{Given, Taker, refuse, texts};
 use std::alloc::{AllocError, Global};
-use std::io::{BufReader, ErrorKind};
+use std::io::{BufReader, ErrorKind, Read};
 use std::process::Abort;
 use std::rt::Files;
 
@@ -36,10 +36,10 @@ pub fn with_path(alloc: Global, text: &str, path: &str) -> Result<String, AllocE
 }
 
 /// Shows what a reader gives.
-fn shown(
+pub fn shown<I: Read + Drop>(
     rt: &(impl Files + AllocGlobal + Abort),
     options: &Options<'_>,
-    input: Given<'_>,
+    input: I,
     streams: &mut Streams<Taker, Taker>,
 ) -> Result<Sum, Fault> {
     match BufReader::new(rt.alloc(), input) {

@@ -4,11 +4,12 @@ ghost use Rattle.std.specs.Prelude.{◌<◌};
 
 use crate::comparing::assert_same_of;
 use crate::outcome::{Outcome, assert_same_at};
-use crate::show::{FILE, options_of, outcome_of, run, status_of_words, streams_with, with_path};
-use ariadne_show::{Environment, Fault, Input, Inputs, Options, Status, Streams, Sum, show};
+use crate::show::{
+    FILE, options_of, outcome_of, run, shown, status_of_words, streams_with, with_path,
+};
+use ariadne_show::{Environment, Fault, Input, Inputs, Options, Status, Streams, Sum};
 use ariadne_testing::{Folder, Given, Taker, refuse, texts, was_refused};
 use std::alloc::{AllocError, Global};
-use std::io::BufReader;
 use std::process::Abort;
 use std::rt::{Env, Files};
 
@@ -294,22 +295,17 @@ fn a_refused_request_of_reading_words_is_want_of_memory(rt: HostRuntime) {
     }
 }
 
-/// Shows what inputs tell.
+/// Shows what inputs tell. Where one can't be read, that is told before another fault.
 fn shown_inputs(
     rt: &(impl Files + AllocGlobal + Abort),
     options: &Options<'_>,
     inputs: &[Input<'_>],
     streams: &mut Streams<Taker, Taker>,
 ) -> Result<Sum, Fault> {
-    let inputs = Inputs::new(rt, rt.alloc(), Given::whole(b"a"), inputs);
-    let mut input = match BufReader::new(rt.alloc(), inputs) {
-        Ok(input) => input,
-        Err(error) => return Err(Fault::of_reading(&error)),
-    };
-    match show(rt, rt.alloc(), options, &mut input, streams) {
-        Ok(sum) => Ok(sum),
-        Err(fault) => Err(input.into_inner().into_fault().unwrap_or(fault)),
-    }
+    let mut inputs = Inputs::new(rt, rt.alloc(), Given::whole(b"a"), inputs);
+    let sum = shown(rt, options, &mut inputs, streams);
+    let unread = inputs.into_fault();
+    sum.map_err(|fault| unread.unwrap_or(fault))
 }
 
 /// Does this as the program does, which reads the environment first.
