@@ -99,8 +99,7 @@ pub(crate) fn labelled<'a>(
     labels: &[(usize, usize, &str)],
 ) -> Result<Report<'a>, AllocError> {
     let mut builder = builder;
-    add_labels(rt.alloc(), &mut builder, labels)?;
-    Ok(builder.finish())
+    add_labels(rt.alloc(), &mut builder, labels).and(Ok(builder.finish()))
 }
 
 /// Adds such labels.
@@ -130,8 +129,7 @@ pub(crate) fn labelled_in<'a>(
     labels: &[(&'static str, usize, usize, &str)],
 ) -> Result<Report<'a, Piece>, AllocError> {
     let mut builder = builder;
-    add_labels_in(rt.alloc(), &mut builder, labels)?;
-    Ok(builder.finish())
+    add_labels_in(rt.alloc(), &mut builder, labels).and(Ok(builder.finish()))
 }
 
 /// Adds such labels.
@@ -334,8 +332,8 @@ fn assert_drawn_over<S: Span, C: Cache<S::SourceId>>(
     ensures { C.can_fetch cache.new }
 {
     let (picture, left_out) = written(rt, report, cache)?;
-    assert_left_out(&left_out, wanted)?;
-    assert_shown(rt, picture.as_str(), rows, is_whole)
+    let shown = assert_shown(rt, picture.as_str(), rows, is_whole);
+    assert_left_out(&left_out, wanted).and(shown)
 }
 
 /// Asserts that over a cache a report leaves out exactly these labels, and that its picture has these

@@ -43,12 +43,14 @@ fn begun(alloc: Global) -> Result<ReportBuilder<'static>, AllocError> {
 
 /// The same with the first of them.
 fn labelled(alloc: Global) -> Result<ReportBuilder<'static>, AllocError> {
-    begun(alloc)?.with_label(first(alloc)?)
+    let label = first(alloc)?;
+    begun(alloc)?.with_label(label)
 }
 
 /// The report with both, by calls by value.
 fn with_labels(alloc: Global) -> Result<Report<'static>, AllocError> {
-    let builder = labelled(alloc)?.with_labels([second(alloc)?])?;
+    let label = second(alloc)?;
+    let builder = labelled(alloc)?.with_labels([label])?;
     Ok(builder.finish())
 }
 
@@ -67,8 +69,7 @@ fn add_both(alloc: Global, builder: &mut ReportBuilder<'_>) -> Result<(), AllocE
 /// The same by calls by reference.
 fn with_added_labels(alloc: Global) -> Result<Report<'static>, AllocError> {
     let mut builder = begun(alloc)?;
-    add_both(alloc, &mut builder)?;
-    Ok(builder.finish())
+    add_both(alloc, &mut builder).and(Ok(builder.finish()))
 }
 
 #[test]
@@ -103,12 +104,16 @@ fn with_aside(alloc: Global, note: &str) -> Result<ReportBuilder<'static>, Alloc
     labelled(alloc)?.with_help("a")?.with_note(note)
 }
 
+/// Adds the others.
+fn add_asides(builder: &mut ReportBuilder<'_>) -> Result<(), AllocError> {
+    builder.with_helps(["b", "c"])?;
+    builder.with_notes(["e"])
+}
+
 /// The report with all of these.
 fn with_asides(alloc: Global) -> Result<Report<'static>, AllocError> {
     let mut builder = with_aside(alloc, "d")?;
-    builder.with_helps(["b", "c"])?;
-    builder.with_notes(["e"])?;
-    Ok(builder.finish())
+    add_asides(&mut builder).and(Ok(builder.finish()))
 }
 
 #[test]
@@ -131,12 +136,16 @@ const ASIDE: &[&str] = &[
     "---'",
 ];
 
+/// Sets these.
+fn set_asides(builder: &mut ReportBuilder<'_>) -> Result<(), AllocError> {
+    builder.set_help("b")?;
+    builder.set_note("d")
+}
+
 /// The report with these, set in place of others.
 fn with_set_asides(alloc: Global) -> Result<Report<'static>, AllocError> {
     let mut builder = with_aside(alloc, "c")?;
-    builder.set_help("b")?;
-    builder.set_note("d")?;
-    Ok(builder.finish())
+    set_asides(&mut builder).and(Ok(builder.finish()))
 }
 
 #[test]

@@ -34,8 +34,7 @@ fn add_rest(alloc: Global, builder: &mut ReportBuilder<'_>) -> Result<(), AllocE
 /// A report with all that a report may have.
 fn report(alloc: Global) -> Result<Report<'static>, AllocError> {
     let mut builder = headed(alloc)?;
-    add_rest(alloc, &mut builder)?;
-    Ok(builder.finish())
+    add_rest(alloc, &mut builder).and(Ok(builder.finish()))
 }
 
 /// Asserts what the label with all that a label may have says of itself.

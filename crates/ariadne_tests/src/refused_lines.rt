@@ -49,8 +49,7 @@ fn add_silent(builder: &mut ReportBuilder<'_>) -> Result<(), AllocError> {
 fn crowded(alloc: Global) -> Result<Report<'static>, AllocError> {
     let label = Label::new(0..1).with_message(alloc, "m")?;
     let mut builder = plain_error(alloc).with_label(label)?;
-    add_silent(&mut builder)?;
-    Ok(builder.finish())
+    add_silent(&mut builder).and(Ok(builder.finish()))
 }
 
 /// The report over the line that is cut.

@@ -94,13 +94,18 @@ fn label(
     label.with_message(alloc, message)
 }
 
-/// The report.
-fn rich(alloc: Global, config: Config) -> Result<Report<'static, Piece>, AllocError> {
-    let mut builder = begun(alloc, config)?;
+/// Adds the labels of the report.
+fn add_labels(alloc: Global, builder: &mut ReportBuilder<'_, Piece>) -> Result<(), AllocError> {
     for row in LABELS {
         builder.add_label(label(alloc, *row)?)?;
     }
-    Ok(builder.finish())
+    Ok(())
+}
+
+/// The report.
+fn rich(alloc: Global, config: Config) -> Result<Report<'static, Piece>, AllocError> {
+    let mut builder = begun(alloc, config)?;
+    add_labels(alloc, &mut builder).and(Ok(builder.finish()))
 }
 
 /// A picture without its colours.
