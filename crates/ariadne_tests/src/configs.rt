@@ -1,14 +1,13 @@
 //! Configurations: the default one, and which one counts.
 
 use crate::asserts::{Mismatch, assert_bytes, plain};
-use crate::comparing::assert_same;
+use crate::comparing::{assert_is, assert_same};
 use ariadne::{CharSet, Color, Config, IndexType, Label, LabelAttach, Report, ReportKind};
 use std::alloc::{AllocError, Global};
 
-#[test]
-fn a_new_configuration_is_the_default(rt: HostRuntime) {
-    assert_same(&rt, &Config::default(), &Config::new());
-    let config = Config::new()
+/// The default, set by each call.
+fn set_default() -> Config {
+    Config::new()
         .with_cross_gap(true)
         .with_label_attach(LabelAttach::Middle)
         .with_compact(false)
@@ -20,12 +19,21 @@ fn a_new_configuration_is_the_default(rt: HostRuntime) {
         .with_tab_width(4)
         .with_width(0)
         .with_char_set(CharSet::Unicode)
-        .with_index_type(IndexType::Char);
-    assert_same(&rt, &config, &Config::new());
-    assert!(rt; config.with_tab_width(8) != Config::new());
-    assert!(rt; LabelAttach::Start != LabelAttach::End);
-    assert!(rt; CharSet::Ascii != CharSet::Unicode);
-    assert!(rt; IndexType::Byte != IndexType::Char);
+        .with_index_type(IndexType::Char)
+}
+
+#[test]
+fn a_new_configuration_is_the_default(rt: HostRuntime) {
+    assert_same(&rt, &Config::default(), &Config::new());
+    assert_same(&rt, &set_default(), &Config::new());
+    let is_same = set_default().with_tab_width(8) == Config::new();
+    assert_is(&rt, is_same, false);
+    let are_same = (
+        LabelAttach::Start == LabelAttach::End,
+        CharSet::Ascii == CharSet::Unicode,
+        IndexType::Byte == IndexType::Char,
+    );
+    assert_is(&rt, are_same, (false, false, false))
 }
 
 #[test]
