@@ -51,6 +51,10 @@ const SHOWN: &[(&str, &[Piece], &str)] = &[
         &[(16, 17, "IX\nIXb"), (0, 1, "one")],
         " 1 - 1\n 1 + one\n...\n 9 - 9\n 9 + IX\n10 + IXb",
     ),
+];
+
+/// The same of places and ends of lines, and of what is hidden.
+const SHOWN_AT_ENDS: &[(&str, &[Piece], &str)] = &[
     // two insertions at one place, and one in front of a replacement
     ("ab\n", &[(1, 1, "1"), (1, 1, "2")], "1 - ab\n1 + a12b"),
     ("ab\n", &[(1, 2, "X"), (1, 1, "2")], "1 - ab\n1 + a2X"),
@@ -131,6 +135,10 @@ const CUT: &[(&str, &[Piece], usize, CharSet, &str)] = &[
         CharSet::Ascii,
         "1 - let total = sum_of(first, second, third);\n1 + let total = sum_of(first, &second, third);",
     ),
+];
+
+/// The same of lines of which less is shown, and of other lines.
+const CUT_SHORT: &[(&str, &[Piece], usize, CharSet, &str)] = &[
     // what is in common takes no more than half
     (
         CALL,
@@ -211,25 +219,40 @@ fn help_of(rt: &(impl Abort + AllocGlobal), text: &str, pieces: &[Piece], view: 
     help_over(rt, &source, IndexType::Char, pieces, view)
 }
 
+/// Asserts what the help says of each source with its edits.
+fn assert_each_shown(rt: &(impl Abort + AllocGlobal), table: &[(&str, &[Piece], &str)]) {
+    for &(text, pieces, want) in table {
+        let help = help_of(rt, text, pieces, WHOLE);
+        assert_is_of(rt, text, help.as_str(), want)
+    }
+}
+
 #[test]
 fn lines_are_shown_before_and_after(rt: HostRuntime) {
-    for (text, pieces, want) in SHOWN {
-        let help = help_of(&rt, *text, *pieces, WHOLE);
-        assert_is_of(&rt, *text, help.as_str(), *want)
+    assert_each_shown(&rt, SHOWN);
+    assert_each_shown(&rt, SHOWN_AT_ENDS)
+}
+
+/// Asserts what the help says of each source with its edits in a width.
+fn assert_each_cut(
+    rt: &(impl Abort + AllocGlobal),
+    table: &[(&str, &[Piece], usize, CharSet, &str)],
+) {
+    for &(text, pieces, width, char_set, want) in table {
+        let view = View {
+            tab_width: 4,
+            width,
+            char_set,
+        };
+        let help = help_of(rt, text, pieces, view);
+        assert_is_of(rt, text, help.as_str(), want)
     }
 }
 
 #[test]
 fn lines_are_cut_around_their_first_difference(rt: HostRuntime) {
-    for (text, pieces, width, char_set, want) in CUT {
-        let view = View {
-            tab_width: 4,
-            width: *width,
-            char_set: *char_set,
-        };
-        let help = help_of(&rt, *text, *pieces, view);
-        assert_is_of(&rt, *text, help.as_str(), *want)
-    }
+    assert_each_cut(&rt, CUT);
+    assert_each_cut(&rt, CUT_SHORT)
 }
 
 /// A source of two lines, of which the first has the number 9.
