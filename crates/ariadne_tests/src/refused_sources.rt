@@ -1,6 +1,7 @@
 //! Sources and caches when memory is refused: each request in turn, until a call meets no refusal.
 
 use crate::asserts::source_of;
+use crate::folders::{file_in, new_folder, remove};
 use crate::refused::{At, MOST_REQUESTS, assert_at, assert_refused, assert_tried, refuse_at};
 use ariadne::{
     Cache, FetchError, FileCache, FnCache, Source, SourceMap, SourceTable, SourceText, sources,
@@ -10,7 +11,6 @@ use std::alloc::{AllocError, Global};
 use std::cell::Cell;
 use std::collections::HashMap;
 use std::fs::Files;
-use std::io;
 use std::process::Abort;
 
 /// The text of the sources that are made.
@@ -338,15 +338,25 @@ fn try_kinds(rt: &(impl Abort + AllocGlobal + Files), ids: Names<'_>, paths: Nam
     }
 }
 
-#[test]
-fn a_refused_fetch_leaves_the_cache_as_it_was(rt: HostRuntime) -> io::Result<()> {
-    let folder = Folder::new(&rt)?;
-    let held = folder.file_of(&rt, "held.txt", b"held")?;
-    let got = folder.file_of(&rt, "got.txt", b"got")?;
-    let names = texts(rt.alloc(), &["held", "x", held.as_str(), got.as_str()])?;
-    match names.as_slice() {
-        [held, id, path, other] => try_kinds(&rt, (held, id), (path, other)),
+/// Two ids of a function, and the paths of two files of a folder.
+fn names_in(rt: &(impl Abort + AllocGlobal + Files), folder: &Folder) -> Vec<String> {
+    let held = file_in(rt, folder, "held.txt", b"held");
+    let got = file_in(rt, folder, "got.txt", b"got");
+    texts(rt.alloc(), &["held", "x", held.as_str(), got.as_str()]).expect(rt, "memory")
+}
+
+/// Refuses each request of a fetch of these.
+fn try_names(rt: &(impl Abort + AllocGlobal + Files), names: &[String]) {
+    match names {
+        [held, id, path, other] => try_kinds(rt, (held, id), (path, other)),
         _ => panic!(rt; "other names"),
     }
-    folder.remove(&rt)
+}
+
+#[test]
+fn a_refused_fetch_leaves_the_cache_as_it_was(rt: HostRuntime) {
+    let folder = new_folder(&rt);
+    let names = names_in(&rt, &folder);
+    try_names(&rt, names.as_slice());
+    remove(&rt, folder)
 }
