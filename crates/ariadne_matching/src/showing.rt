@@ -1,6 +1,6 @@
 //! What an input tells, shown behind the matchers.
 
-ghost use Rattle.std.specs.Prelude.{ℕ, ◌×◌, List, Option, IfOk};
+ghost use Rattle.std.specs.Prelude.{ℕ, List, Option, IfOk};
 ghost use Rattle.ariadne_matching.specs.OwnTables.{options_behind as with_options_behind};
 ghost use Rattle.ariadne_show.specs.RunOutput.{IsAllShown};
 
