@@ -39,7 +39,6 @@ impl TextFiles {
         alloc: Global,
         base: Option<&str>,
     ) -> Result<TextFiles, AllocError> {
-        let origin = Origin::new(files, alloc, base)?;
         let bounds = match base {
             Some(base) => Bounds::below(files, alloc, base)?,
             None => Bounds::Anywhere,
@@ -47,7 +46,7 @@ impl TextFiles {
         Ok(TextFiles {
             files: HashMap::new(alloc),
             bounds,
-            origin,
+            origin: Origin::new(files, alloc, base)?,
             folders: Folders::new(alloc),
             alloc,
         })
@@ -84,16 +83,7 @@ impl TextFiles {
     fn find<R: Files>(&mut self, files: &R, name: &str) -> Result<Option<String>, AllocError> {
         let search = self.origin.search(None, self.folders.as_slice());
         let paths = candidates(self.alloc, &search, name)?;
-        self.first_read(files, paths.as_slice())
-    }
-
-    /// The first of these paths at which a file can be read.
-    fn first_read<R: Files>(
-        &mut self,
-        files: &R,
-        paths: &[String],
-    ) -> Result<Option<String>, AllocError> {
-        for path in paths {
+        for path in &paths {
             let path = path.as_str();
             self.read(files, path)?;
             if self.is_read(path) {

@@ -70,7 +70,11 @@ fn table_in(alloc: Global, path: &str, text: &str) -> Result<Table, Fault>
 {
     match table_of(alloc, text) {
         Ok(table) => Ok(table),
-        Err(refusal) => Err(refused(alloc, path, text, &refusal)?),
+        Err(refusal) => {
+            let fault = refused(alloc, path, text, &refusal);
+            drop(refusal);
+            Err(fault?)
+        }
     }
 }
 

@@ -33,11 +33,11 @@ pub fn show_input<R: Files, I: Read + Drop, W: Write, F: Write>(
 }
 
 /// Shows what is read by these matchers.
-fn show_matched<R: Files, I: Read + Drop, W: Write, F: Write>(
-    files: &R,
+fn show_matched<'a, R: Files, I: Read + Drop, W: Write, F: Write>(
+    files: &'a R,
     alloc: Global,
     options: Options<'_>,
-    matchers: Matchers<'_>,
+    matchers: Matchers<'a>,
     input: I,
     streams: &mut Streams<W, F>,
 ) -> Result<Sum, Fault>
@@ -47,7 +47,10 @@ fn show_matched<R: Files, I: Read + Drop, W: Write, F: Write>(
     let input = buffered(alloc, input)?;
     let input = MatchedInput::new(files, alloc, &options, matchers, input)?;
     let mut input = buffered(alloc, input)?;
-    show(files, alloc, &options_behind(options), &mut input, streams)
+    let options = options_behind(options);
+    let shown = show(files, alloc, &options, &mut input, streams);
+    drop(input);
+    shown
 }
 
 /// What reads an input by larger pieces.
