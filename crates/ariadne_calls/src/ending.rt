@@ -6,7 +6,7 @@ ghost use Rattle.ariadne_calls.specs.CallStatuses.{count_of, len_of, number_of, 
 use std::alloc::{AllocError, AllocFailed};
 
 /// What is wrong with a report or a source: with which label, text or source, by its number from 0.
-#[derive(Clone, Copy, Debug, PartialEq, Eq)]
+#[derive(Clone, Copy)]
 pub enum Fault {
     /// The number of the kind is none.
     Kind,
@@ -92,7 +92,7 @@ impl Fault {
 }
 
 /// Why there is no picture.
-#[derive(Clone, Copy, Debug, PartialEq, Eq)]
+#[derive(Clone, Copy)]
 pub enum Refusal {
     /// There was no memory.
     NoMemory,
@@ -123,7 +123,7 @@ impl<T: Drop> From<AllocFailed<T>> for Refusal {
 }
 
 /// How a call ends.
-#[derive(Clone, Copy, Debug, PartialEq, Eq)]
+#[derive(Clone, Copy)]
 pub enum CallOutcome {
     /// The picture has so many bytes, and so many labels are left out of it.
     Drawn { len: usize, left_out: usize },

@@ -9,7 +9,7 @@ use ariadne_edits::BadEdit;
 use std::alloc::{AllocError, AllocFailed};
 
 /// What is wrong with edits or their source: with which edit, by its number from 0.
-#[derive(Clone, Copy, Debug, PartialEq, Eq)]
+#[derive(Clone, Copy)]
 pub enum Misgiven {
     /// There is no such flag.
     Flags,
@@ -74,7 +74,7 @@ fn edit_place(bad: BadEdit) -> usize
 }
 
 /// Why nothing is suggested.
-#[derive(Clone, Copy, Debug, PartialEq, Eq)]
+#[derive(Clone, Copy)]
 pub enum Unsuggested {
     /// There was no memory.
     NoMemory,
@@ -105,7 +105,7 @@ impl<T: Drop> From<AllocFailed<T>> for Unsuggested {
 }
 
 /// How a call ends.
-#[derive(Clone, Copy, Debug, PartialEq, Eq)]
+#[derive(Clone, Copy)]
 pub enum Suggested {
     /// The text has so many bytes.
     Told { len: usize },

@@ -19,7 +19,7 @@ pub const DRAW_USAGE: &str =
 pub const BRACKETS_USAGE: &str = "usage: ariadne-brackets PATH...";
 
 /// How a command ends. The numbers are its exit statuses.
-#[derive(Clone, Copy, Debug, PartialEq, Eq)]
+#[derive(Clone, Copy)]
 pub enum Status {
     /// `draw`: the report was written, with all its labels, or the text that was asked for in its place.
     /// `lint`: every file was read, and the brackets of each are balanced. Nothing was printed.

@@ -6,7 +6,7 @@ ghost use Rattle.ariadne_commands.specs.Brackets.{closing_of, is_closing, IsFirs
 use std::alloc::{AllocError, Global};
 
 /// What is wrong with a text first, by the offsets of its characters, which count from 0.
-#[derive(Clone, Copy, Debug, PartialEq)]
+#[derive(Clone, Copy)]
 pub enum Offence {
     /// The closing bracket here stands where no bracket is open.
     Unopened(usize),

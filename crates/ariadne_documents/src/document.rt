@@ -19,7 +19,7 @@ use std::marker::Model;
 pub const MOST_BYTES: usize = 1 << 25;
 
 /// What a document does with a line.
-#[derive(Clone, Copy, Debug, PartialEq, Eq)]
+#[derive(Clone, Copy)]
 pub enum Step {
     /// The line is one of it, and it goes on behind it.
     GoesOn,

@@ -25,7 +25,7 @@ use ariadne_picture::switches::CharSet;
 use std::alloc::{AllocError, Global};
 
 /// How lines are shown.
-#[derive(Clone, Copy, Debug, PartialEq, Eq)]
+#[derive(Clone, Copy)]
 pub struct View {
     /// How many columns stand from one tab stop to the next.
     pub tab_width: usize,

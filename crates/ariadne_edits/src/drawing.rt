@@ -17,7 +17,7 @@ use ariadne_base::Source;
 use std::alloc::{AllocError, Global};
 
 /// How rows are laid out.
-#[derive(Clone, Copy, Debug)]
+#[derive(Clone, Copy)]
 pub struct Layout {
     /// How many columns the numbers of lines take.
     pub width: usize,
@@ -28,7 +28,7 @@ pub struct Layout {
 }
 
 /// Where a row stands among those that are drawn.
-#[derive(Clone, Copy, Debug)]
+#[derive(Clone, Copy)]
 pub struct Standing {
     /// It is the first.
     pub is_first: bool,

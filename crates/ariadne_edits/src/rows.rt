@@ -13,7 +13,7 @@ use ariadne_base::Source;
 use std::alloc::{AllocError, Global};
 
 /// How the white space of a line is shown.
-#[derive(Clone, Copy, Debug, PartialEq, Eq)]
+#[derive(Clone, Copy)]
 pub enum Blanks {
     /// As blanks.
     Plain,
@@ -22,7 +22,7 @@ pub enum Blanks {
 }
 
 /// How a line is shown that changes.
-#[derive(Clone, Copy, Debug, PartialEq, Eq)]
+#[derive(Clone, Copy)]
 pub struct Look {
     /// How its white space is shown.
     pub blanks: Blanks,
@@ -32,7 +32,7 @@ pub struct Look {
 }
 
 /// A line of the source, of the edited text, or of both. Lines count from 0.
-#[derive(Clone, Copy, Debug, PartialEq, Eq)]
+#[derive(Clone, Copy)]
 pub enum Row {
     /// This line of the source stands unchanged as that of the edited text.
     Kept(usize, usize),

@@ -11,7 +11,7 @@ use ariadne_picture::label_info::LabelInfo;
 use std::alloc::{AllocError, Global};
 
 /// The places from the end of the run before it, or from 0, to its own end.
-#[derive(Clone, Copy, Debug)]
+#[derive(Clone, Copy)]
 pub struct LabelRun<'a> {
     /// One past its last place.
     pub end: usize,

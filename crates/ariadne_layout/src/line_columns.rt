@@ -24,7 +24,7 @@ const TOO_MANY: usize = 1 << 60;
 
 /// A place of a cut line of which anything is seen, or one behind it, and the column that it begins
 /// at.
-#[derive(Clone, Copy, Debug, Drop)]
+#[derive(Clone, Copy, Drop)]
 pub struct Knot {
     pub place: usize,
     pub column: usize,

@@ -15,7 +15,7 @@ use std::marker::Model;
 
 /// What happens at a line: a gutter label starts or ends there, or a label within one line stands
 /// there.
-#[derive(Clone, Copy, Debug, PartialEq, Eq)]
+#[derive(Clone, Copy)]
 pub struct Event {
     /// The line, from 0.
     pub line: usize,

@@ -21,7 +21,7 @@ use std::alloc::AllocError;
 const FEW: usize = 48;
 
 /// The places from the end of the stretch before it, or from 0, to its own end.
-#[derive(Clone, Copy, Debug, PartialEq, Eq)]
+#[derive(Clone, Copy)]
 pub struct Stretch {
     /// One past its last place.
     pub end: usize,

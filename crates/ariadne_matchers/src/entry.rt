@@ -4,7 +4,7 @@ use crate::measure::Measure;
 use regex::Regex;
 
 /// How bad a diagnostic is.
-#[derive(Clone, Copy, Debug)]
+#[derive(Clone, Copy)]
 pub enum Severity {
     /// It stops the tool, or makes it fail.
     Error,

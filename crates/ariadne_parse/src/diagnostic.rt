@@ -13,7 +13,7 @@ use std::alloc::{AllocError, Global};
 use std::ops::Range;
 
 /// How bad a diagnostic is.
-#[derive(Clone, Copy, Debug)]
+#[derive(Clone, Copy)]
 pub enum Severity {
     /// It stops the tool, or makes it fail.
     Error,

@@ -7,7 +7,7 @@ ghost use Rattle.ariadne_picture.specs.Cells.{glyph_code};
 use crate::switches::CharSet;
 
 /// A stroke of the picture, whatever the character set.
-#[derive(Clone, Copy, Debug, PartialEq, Eq)]
+#[derive(Clone, Copy)]
 pub enum Glyph {
     Blank,
     Hbar,
@@ -84,7 +84,7 @@ impl Glyph {
 }
 
 /// Whose colour a piece of the picture has.
-#[derive(Clone, Copy, Debug, PartialEq, Eq)]
+#[derive(Clone, Copy)]
 pub enum Paint {
     /// No colour.
     Plain,
@@ -103,7 +103,7 @@ pub enum Paint {
 }
 
 /// The first cell of a place or column, and all the cells behind it.
-#[derive(Clone, Copy, Debug, PartialEq, Eq)]
+#[derive(Clone, Copy)]
 pub struct Ink {
     pub first: Glyph,
     pub first_paint: Paint,

@@ -6,7 +6,7 @@ ghost use Rattle.ariadne_picture.specs.Strokes.{is_preferred};
 
 /// An accepted label: its span in characters, and where its ends lie. A place is the index of a
 /// character in its line; lines and places count from 0.
-#[derive(Clone, Copy, Debug, PartialEq, Eq)]
+#[derive(Clone, Copy)]
 pub struct LabelInfo {
     /// Its position among the report's labels, from 0.
     pub position: usize,
@@ -53,7 +53,7 @@ impl LabelInfo {
 }
 
 /// What a label does at a line.
-#[derive(Clone, Copy, Debug, PartialEq, Eq)]
+#[derive(Clone, Copy)]
 pub enum Side {
     /// It lies within the line.
     Inline,
@@ -74,7 +74,7 @@ impl Side {
 }
 
 /// A label as it stands at one of its lines.
-#[derive(Clone, Copy, Debug, PartialEq, Eq)]
+#[derive(Clone, Copy)]
 pub struct LineLabel {
     /// The label.
     pub info: LabelInfo,

@@ -30,7 +30,7 @@ pub enum IndexType {
 }
 
 /// What the layout reads of a configuration: neither colours nor what offsets count.
-#[derive(Clone, Copy, Debug, PartialEq, Eq)]
+#[derive(Clone, Copy)]
 pub struct Switches {
     pub cross_gap: bool,
     pub compact: bool,

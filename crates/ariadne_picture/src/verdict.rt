@@ -3,7 +3,7 @@
 use crate::label_info::LabelInfo;
 
 /// What becomes of a label whose source is held.
-#[derive(Clone, Copy, Debug, PartialEq, Eq)]
+#[derive(Clone, Copy)]
 pub enum Verdict {
     /// It is drawn.
     Accepted(LabelInfo),

@@ -135,6 +135,16 @@ const DOCUMENTS: &[Lines] = &[
     },
 ];
 
+/// The name of a step, if there was one.
+fn name_of(step: Option<Step>) -> &'static str {
+    match step {
+        Some(Step::GoesOn) => "goes on",
+        Some(Step::Ended) => "ended",
+        Some(Step::Broken) => "broken",
+        None => "no step",
+    }
+}
+
 /// Asserts that lines made this document, with this last step.
 fn assert_document(
     rt: &(impl AllocGlobal + Abort),
@@ -144,12 +154,12 @@ fn assert_document(
 ) {
     let value = document.value(rt.alloc()).expect(rt, "memory");
     let number = number_in(&value).unwrap_or(0);
-    let found = (step, document.bytes(), number);
+    let found = (name_of(step), document.bytes(), number);
     assert_same_of(
         rt,
         it.held,
         &found,
-        &(Some(it.step), it.held.as_bytes(), it.number),
+        &(name_of(Some(it.step)), it.held.as_bytes(), it.number),
     )
 }
 

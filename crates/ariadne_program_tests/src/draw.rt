@@ -18,7 +18,7 @@ pub fn run(
     input: Given<'_>,
     out: Taker,
     nth: usize,
-) -> (Outcome<Status>, bool)
+) -> (Outcome, bool)
     requires { nth < 100000 }
 {
     let alloc = rt.alloc();
@@ -37,7 +37,7 @@ pub fn run(
     );
     let outcome = Outcome {
         nth,
-        status,
+        status: status as u8,
         out: out.held,
         faults: faults.held,
     };
@@ -80,7 +80,7 @@ fn assert_unread(
     let out = Taker::whole(rt.alloc()).expect(rt, "memory");
     let (outcome, has_failed) = run(rt, &ONE_LABEL, input, out, 0);
     assert!(rt; has_failed == is_faulty);
-    outcome.assert_is(rt, status, b"", told)
+    outcome.assert_is(rt, status as u8, b"", told)
 }
 
 #[test]
@@ -131,7 +131,7 @@ fn assert_cut(
     let (outcome, _) = run(rt, words, Given::whole(TEXT), out, 0);
     let sent = held.len();
     let told = format!(in rt.alloc(); "write failed after {sent} bytes\n").expect(rt, "memory");
-    outcome.assert_is(rt, Status::Failed, held, told.as_bytes())
+    outcome.assert_is(rt, Status::Failed as u8, held, told.as_bytes())
 }
 
 /// Asserts this of each beginning of what the words write, taken byte by byte or at once, of a writer with

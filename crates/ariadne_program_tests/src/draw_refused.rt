@@ -21,10 +21,10 @@ fn is_drawn(rt: &(impl Files + AllocGlobal + Abort), nth: usize) -> bool
     let out = Taker::whole(rt.alloc()).expect(rt, "memory");
     let (outcome, _) = run(rt, &WORDS, Given::whole(TEXT), out, nth);
     if was_refused(rt.alloc()) {
-        outcome.assert_is(rt, Status::Failed, b"", b"no memory\n");
+        outcome.assert_is(rt, Status::Failed as u8, b"", b"no memory\n");
         return false;
     }
-    outcome.assert_status(rt, Status::Clean);
+    outcome.assert_status(rt, Status::Clean as u8);
     true
 }
 

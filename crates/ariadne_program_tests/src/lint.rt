@@ -45,7 +45,7 @@ pub fn run(
     words: &[&str],
     out: Taker,
     nth: usize,
-) -> Outcome<Status>
+) -> Outcome
     requires { nth < 100000 }
 {
     let alloc = rt.alloc();
@@ -56,7 +56,7 @@ pub fn run(
     let status = lint(rt, alloc, words.as_slice(), &mut out, &mut faults);
     Outcome {
         nth,
-        status,
+        status: status as u8,
         out: out.held,
         faults: faults.held,
     }
@@ -75,7 +75,7 @@ fn assert_cut(
     let outcome = run(rt, words, out, 0);
     let told = format!(in rt.alloc(); "/: can't be read\nwrite failed after {calls} bytes\n");
     let told = told.expect(rt, "memory");
-    outcome.assert_is(rt, Status::Failed, held, told.as_bytes())
+    outcome.assert_is(rt, Status::Failed as u8, held, told.as_bytes())
 }
 
 /// Asserts this of each beginning of the picture, of a writer with a fault and of one that takes
@@ -110,10 +110,20 @@ const TEXTS: &[(&str, Option<Offence>)] = &[
     ("{[()]}{", Some(Offence::Unclosed(6))),
 ];
 
+/// The name of an offence, if there is one, and its offsets.
+pub fn parts_of(offence: Option<Offence>) -> (&'static str, usize, usize) {
+    match offence {
+        Some(Offence::Unopened(at)) => ("unopened", at, 0),
+        Some(Offence::Mismatched(at, by)) => ("mismatched", at, by),
+        Some(Offence::Unclosed(at)) => ("unclosed", at, 0),
+        None => ("no offence", 0, 0),
+    }
+}
+
 /// Asserts that this is the first offence of a text.
 fn assert_first(rt: &(impl AllocGlobal + Abort), text: &str, want: Option<Offence>) {
     let found = first_offence(rt.alloc(), text).expect(rt, "memory");
-    assert_same_of(rt, text, &found, &want)
+    assert_same_of(rt, text, &parts_of(found), &parts_of(want))
 }
 
 #[test]

@@ -3,7 +3,7 @@
 ghost use Rattle.std.specs.Prelude.{◌<◌};
 
 use crate::comparing::assert_same_of;
-use crate::lint::{FIRST, SECOND, both, run};
+use crate::lint::{FIRST, SECOND, both, parts_of, run};
 use crate::outcome::is_served;
 use ariadne_commands::{Offence, Status, first_offence};
 use ariadne_testing::{Folder, Taker, refuse, was_refused};
@@ -19,7 +19,8 @@ fn is_found(rt: &(impl AllocGlobal + Abort), nth: usize) -> bool
     refuse(alloc, nth);
     let is_ok = match first_offence(alloc, "(((((((((((((((((((((((((((((((((((((((x") {
         Ok(found) => {
-            assert_same_of(rt, "the text", &found, &Some(Offence::Unclosed(38)));
+            let want = Some(Offence::Unclosed(38));
+            assert_same_of(rt, "the text", &parts_of(found), &parts_of(want));
             true
         }
         Err(_) => false,
@@ -50,10 +51,10 @@ fn is_drawn(
     let out = Taker::whole(rt.alloc()).expect(rt, "memory");
     let outcome = run(rt, words, out, nth);
     if was_refused(rt.alloc()) {
-        outcome.assert_is(rt, Status::Failed, b"", b"no memory\n");
+        outcome.assert_is(rt, Status::Failed as u8, b"", b"no memory\n");
         return false;
     }
-    outcome.assert_is(rt, Status::Findings, picture, b"");
+    outcome.assert_is(rt, Status::Findings as u8, picture, b"");
     true
 }
 

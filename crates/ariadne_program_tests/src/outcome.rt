@@ -7,10 +7,11 @@ use std::process::Abort;
 
 /// What a run returned, and what its writers took.
 #[derive(Drop)]
-pub struct Outcome<S> {
+pub struct Outcome {
     /// The request for memory that was refused, counted from 1, or 0 where there was none.
     pub nth: usize,
-    pub status: S,
+    /// The exit status.
+    pub status: u8,
     pub out: Vec<u8>,
     pub faults: Vec<u8>,
 }
@@ -20,20 +21,20 @@ pub fn assert_same_at<T: Debug + PartialEq>(rt: &impl Abort, nth: usize, found: 
     assert_same_of(rt, "a request", &(nth, found), &(nth, wanted))
 }
 
-impl<S: Copy + Debug + PartialEq> Outcome<S> {
+impl Outcome {
     /// Asserts what the run returned.
-    pub fn assert_status(&self, rt: &impl Abort, status: S) {
+    pub fn assert_status(&self, rt: &impl Abort, status: u8) {
         assert_same_at(rt, self.nth, &self.status, &status)
     }
 
     /// Asserts what the run returned, and what it told of faults.
-    pub fn assert_told(&self, rt: &impl Abort, status: S, faults: &[u8]) {
+    pub fn assert_told(&self, rt: &impl Abort, status: u8, faults: &[u8]) {
         self.assert_status(rt, status);
         assert_same_at(rt, self.nth, &self.faults.as_slice(), &faults)
     }
 
     /// Asserts what the run returned, and what its writers took.
-    pub fn assert_is(&self, rt: &impl Abort, status: S, out: &[u8], faults: &[u8]) {
+    pub fn assert_is(&self, rt: &impl Abort, status: u8, out: &[u8], faults: &[u8]) {
         self.assert_told(rt, status, faults);
         assert_same_at(rt, self.nth, &self.out.as_slice(), &out)
     }

@@ -1,7 +1,7 @@
 //! Lines that tell a diagnostic, as the pages of their tools show them, and what is told of each.
 
 use crate::comparing::assert_text_of;
-use crate::showing::location_text;
+use crate::showing::{location_text, severity_name};
 use ariadne_parse::{
     Answer, Counting, Diagnostic, End, Format, Location, OwnKind, Reading, Sent, Span, Unit, parsed,
 };
@@ -242,7 +242,8 @@ fn parsed_text(alloc: Global, it: &Diagnostic) -> Result<String, AllocError> {
     let name = name_of(it.own_kind.as_ref());
     let code = it.code.as_deref().unwrap_or("");
     let message = it.message.as_str();
-    format!(in alloc; "{span} {:?} ({name}) ({code}) {message}", it.severity)
+    let severity = severity_name(it.severity);
+    format!(in alloc; "{span} {severity} ({name}) ({code}) {message}")
 }
 
 /// How the lines are read.

@@ -2,7 +2,7 @@
 //! each.
 
 use crate::comparing::{assert_same_of, assert_text_of};
-use crate::showing::location_text;
+use crate::showing::{location_text, severity_name};
 use ariadne_parse::{
     Location, arrow_of, bare_head_of, front_of, has_escape, is_scope_line, is_tally, without_sgr,
 };
@@ -39,7 +39,8 @@ fn bare_text(alloc: Global, line: &str) -> Result<String, AllocError> {
         Some(head) => {
             let (name, code) = (head.name.unwrap_or(""), head.code.unwrap_or(""));
             let message = head.message;
-            format!(in alloc; "{:?} ({name}) ({code}) {message}", head.severity)
+            let severity = severity_name(head.severity);
+            format!(in alloc; "{severity} ({name}) ({code}) {message}")
         }
         None => Ok(String::new(alloc)),
     }

@@ -56,7 +56,7 @@ pub fn run(
     input: Given<'_>,
     out: Taker,
     nth: usize,
-) -> Outcome<Status>
+) -> Outcome
     requires { nth < 100000 }
 {
     let words = texts(rt.alloc(), words).expect(rt, "memory");
@@ -71,7 +71,7 @@ fn run_by(
     input: Given<'_>,
     out: Taker,
     nth: usize,
-) -> Outcome<Status>
+) -> Outcome
     requires { nth < 100000 }
 {
     let mut streams = streams_with(rt, out);
@@ -94,7 +94,7 @@ pub fn outcome_of(
     fail_on: FailOn,
     streams: Streams<Taker, Taker>,
     nth: usize,
-) -> Outcome<Status> {
+) -> Outcome {
     let Streams { out, mut beside } = streams;
     let status = match sum {
         Ok(sum) => sum.status(fail_on),
@@ -102,7 +102,7 @@ pub fn outcome_of(
     };
     Outcome {
         nth,
-        status,
+        status: status as u8,
         out: out.held,
         faults: beside.held,
     }
@@ -118,7 +118,7 @@ fn assert_shown(
 ) {
     let out = Taker::whole(rt.alloc()).expect(rt, "memory");
     let outcome = run(rt, words, Given::whole(input), out, 0);
-    outcome.assert_is(rt, status, want, b"")
+    outcome.assert_is(rt, status as u8, want, b"")
 }
 
 /// Inputs that tell nothing.
@@ -207,7 +207,7 @@ fn assert_unread(rt: &(impl Files + AllocGlobal + Abort), kind: ErrorKind, told:
         fault: Some(kind),
     };
     let outcome = run(rt, &[], input, out, 0);
-    outcome.assert_is(rt, Status::Failed, b"a line\n", told)
+    outcome.assert_is(rt, Status::Failed as u8, b"a line\n", told)
 }
 
 #[test]
@@ -229,7 +229,7 @@ fn assert_cut(
     let input =
         b"a line\n{\"kind\":\"error\",\"message\":\"m\",\"labels\":[{\"file\":\"gone\",\"start\":[1]}]}\n";
     let outcome = run(rt, &[], Given::whole(input), out, 0);
-    outcome.assert_is(rt, status, held, told)
+    outcome.assert_is(rt, status as u8, held, told)
 }
 
 #[test]
@@ -256,12 +256,12 @@ fn assert_wrong(rt: &(impl AllocGlobal + Abort), words: &[&str], told: &str) {
     let words = texts(rt.alloc(), words).expect(rt, "memory");
     let mut faults = Taker::whole(rt.alloc()).expect(rt, "memory");
     let status = status_of_words(rt.alloc(), words.as_slice(), &mut faults);
-    let found = (status, faults.held.as_slice());
+    let found = (status as u8, faults.held.as_slice());
     assert_same_of(
         rt,
         "the words",
         &found,
-        &(Status::WrongWords, told.as_bytes()),
+        &(Status::WrongWords as u8, told.as_bytes()),
     )
 }
 

@@ -123,13 +123,8 @@ fn assert_beginning(rt: &impl Abort, shown: &[u8], whole: &[u8], nth: usize) {
 }
 
 /// Asserts that a run with a request refused, which told that behind these bytes, cut no line.
-fn assert_uncut(
-    rt: &impl Abort,
-    outcome: &Outcome<Status>,
-    beside: &[u8],
-    whole: &Outcome<Status>,
-) {
-    outcome.assert_status(rt, Status::Failed);
+fn assert_uncut(rt: &impl Abort, outcome: &Outcome, beside: &[u8], whole: &Outcome) {
+    outcome.assert_status(rt, Status::Failed as u8);
     assert_beginning(
         rt,
         outcome.out.as_slice(),
@@ -140,18 +135,14 @@ fn assert_uncut(
 }
 
 /// Asserts that a run came to the same as another.
-fn assert_same_run(rt: &impl Abort, outcome: &Outcome<Status>, whole: &Outcome<Status>) {
+fn assert_same_run(rt: &impl Abort, outcome: &Outcome, whole: &Outcome) {
     let (out, faults) = (whole.out.as_slice(), whole.faults.as_slice());
     outcome.assert_is(rt, whole.status, out, faults)
 }
 
 /// Asserts that a run with one request refused told that, and cut no line, or that it came to the same
 /// as with memory. Where there was no such request the result is true.
-fn is_whole(
-    rt: &(impl AllocGlobal + Abort),
-    outcome: &Outcome<Status>,
-    whole: &Outcome<Status>,
-) -> bool {
+fn is_whole(rt: &(impl AllocGlobal + Abort), outcome: &Outcome, whole: &Outcome) -> bool {
     let is_refused = was_refused(rt.alloc());
     match outcome.faults.as_slice().strip_suffix(NO_MEMORY) {
         Some(beside) if is_refused => assert_uncut(rt, outcome, beside, whole),
@@ -181,7 +172,7 @@ fn show_refused(
     words: &[&str],
     folder: &str,
     nth: usize,
-) -> Outcome<Status>
+) -> Outcome
     requires { nth < 100000 }
 {
     let own = words_in(rt.alloc(), words, folder).expect(rt, "memory");
@@ -198,7 +189,7 @@ fn refuse_each(
     folder: &str,
 ) {
     let whole = show_refused(rt, printed, words, folder, 0);
-    whole.assert_status(rt, Status::WithErrors);
+    whole.assert_status(rt, Status::WithErrors as u8);
     for nth in 1..10000 {
         if is_whole(rt, &show_refused(rt, printed, words, folder, nth), &whole) {
             return;
@@ -324,7 +315,7 @@ fn show_inputs_refused(
     rt: &(impl Env + Files + AllocGlobal + Abort),
     inputs: &[Input<'_>],
     nth: usize,
-) -> Outcome<Status>
+) -> Outcome
     requires { nth < 100000 }
 {
     let options = options_of(rt, &[]);
@@ -340,7 +331,7 @@ fn refuse_each_of_inputs(rt: &(impl Env + Files + AllocGlobal + Abort), inputs: 
     let whole = show_inputs_refused(rt, inputs, 0);
     let shown: &[u8] = b"a\nlet x = y;\nlast\n";
     assert_same_of(rt, "the inputs", &whole.out.as_slice(), &shown);
-    whole.assert_status(rt, Status::Failed);
+    whole.assert_status(rt, Status::Failed as u8);
     for nth in 1..1000 {
         if is_whole(rt, &show_inputs_refused(rt, inputs, nth), &whole) {
             return;

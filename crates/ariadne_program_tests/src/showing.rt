@@ -3,7 +3,7 @@
 use crate::comparing::assert_same_of;
 use ariadne_documents::parsed_document;
 use ariadne_json::read_value;
-use ariadne_parse::{Change, Diagnostic, End, Location, Proposal, Span, Unit};
+use ariadne_parse::{Change, Diagnostic, End, Location, Proposal, Severity, Span, Unit};
 use serde_json::Value;
 use std::alloc::{AllocError, Global};
 use std::process::Abort;
@@ -70,11 +70,21 @@ pub fn all_text(alloc: Global, all: &[Diagnostic]) -> Result<String, AllocError>
     Ok(text)
 }
 
+/// The name of a severity.
+pub fn severity_name(severity: Severity) -> &'static str {
+    match severity {
+        Severity::Error => "Error",
+        Severity::Warning => "Warning",
+        Severity::Note => "Note",
+    }
+}
+
 /// The first row of a diagnostic.
 fn head_text(alloc: Global, parsed: &Diagnostic) -> Result<String, AllocError> {
     let message = parsed.message.as_str();
     let code = parsed.code.as_deref().unwrap_or("");
-    format!(in alloc; "{:?} ({code}) {message}\n", parsed.severity)
+    let severity = severity_name(parsed.severity);
+    format!(in alloc; "{severity} ({code}) {message}\n")
 }
 
 /// Adds the rows of a diagnostic.

@@ -22,7 +22,7 @@ use ariadne_picture::texts::Texts;
 use std::alloc::AllocError;
 
 /// What stands below the lines of the last group.
-#[derive(Clone, Copy, Debug, PartialEq, Eq)]
+#[derive(Clone, Copy)]
 pub enum AsideKind {
     Help,
     Note,

@@ -15,7 +15,7 @@ use std::io::{ErrorKind, Write};
 use thiserror::Error;
 
 /// How the program ends. The numbers are its exit statuses.
-#[derive(Clone, Copy, Debug, PartialEq, Eq)]
+#[derive(Clone, Copy)]
 pub enum Status {
     /// All was shown, and no error was among it, or nothing else that `--fail-on` asks for.
     Shown = 0,
