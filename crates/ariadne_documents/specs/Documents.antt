@@ -1,7 +1,7 @@
 -- Documents of JSON that go over many lines: which lines are one, and up to where. A document begins with a line whose
 -- first character behind blanks is a brace or a bracket, and ends with the first line behind which as many close as
 -- open. It isn't one where a line can be no part of JSON, or where it gets too long. The line feed is 10.
-use Rattle.std.specs.Prelude.{ℕ, ◌≡◌, ◌≤◌, ◌+◌, ◌^◌, nat_le, Bool, true, false, not, ◌&&◌, if◌then◌else◌}
+use Rattle.std.specs.Prelude.{ℕ, ◌≡◌, ◌≤◌, ◌+◌, ◌^◌, nat_le, Bool, true, false, ◌&&◌, if◌then◌else◌}
 use Rattle.std.specs.Prelude.{List, [], ◌++◌, length, slice_get, Option, Some, None}
 use Rattle.std.specs.List.{prefix_len}
 use Rattle.std.specs.Str.Lossy.{utf8_lossy}

@@ -2,9 +2,8 @@
 use Rattle.std.proofs.Common.{◌≡◌, ◌∙◌, ap, refl}
 use Rattle.std.proofs.lemmas.Result.{IfOk-weaker}
 use Rattle.ariadne.specs.Kinds as kinds
-use Rattle.ariadne_safe.specs.SafeBuilding.{kind_in, report_of as report_in, sources_below}
+use Rattle.ariadne_safe.specs.SafeBuilding.{kind_in}
 use Rattle.ariadne_safe.specs.Sources.{sources_of}
-use Rattle.ariadne_calls.specs.CallBuffers.{IsSafePicture}
 use Rattle.ariadne_calls.specs.Safe.{shown_kind, shown_report}
 use Rattle.ariadne_calls.proofs.safe.picture_over.Goals as goal
 

@@ -1,8 +1,6 @@
 -- What are read are the given sources, and what is drawn is the report that stands for the given one.
 use Rattle.std.proofs.lemmas.Result.{IfErr-weaker, IfOk-weaker}
 use Rattle.ariadne_safe.specs.Sources.{sources_of}
-use Rattle.ariadne_calls.specs.CallBuffers.{IsSafePicture}
-use Rattle.ariadne_calls.specs.Safe.{shown_report}
 use Rattle.ariadne_calls.proofs.safe.safe_picture.Goals as goal
 
 pub returns-clause-ok : goal.returns-clause-ok
