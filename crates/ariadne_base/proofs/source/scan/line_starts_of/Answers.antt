@@ -1,5 +1,6 @@
-use Rattle.std.proofs.Common.{◌≡◌, ◌+◌, sym, ap, ◌∙◌, inl, inr, ◌⊎◌, ◌<◌, length, arith, rules}
+use Rattle.std.proofs.Common.{◌≡◌, ◌+◌, sym, ap, ◌∙◌, inl, inr, ◌⊎◌, ◌<◌, length, arith, length-append}
 use Rattle.std.specs.Str.{chars}
+use Rattle.std.proofs.lemmas.Str.{length-encode, len_utf8_bounds}
 use Rattle.ariadne_base.specs.Lines.{ends_line}
 use Rattle.ariadne_base.proofs.Scanning.{IsScanned, scan_start, scan_closed, scan_open, scan_jump, scan_whole, scan_last}
 use Rattle.ariadne_base.proofs.source.scan.line_starts_of.Goals as goal
@@ -9,6 +10,31 @@ use Rattle.ariadne_base.proofs.source.scan.line_starts_of.Goals.{then-begun-at-v
 -- nothing is scanned yet
 pub loop-c-init : goal.loop-c-init
 loop-c-init c = rw (c.chars-rest.ensures.rest, c.in_ok-push.ensures.items, c.in_ok-starts.ensures.items) (scan_start _ c.utf8.text)
+
+-- at most as many characters are passed as the text has bytes
+pub overflow_add-at : goal.overflow_add-at
+overflow_add-at c = omega (arith, c.loop-c.invariant.count)
+
+-- each turn takes the bytes of a character, at least one, from the rest
+pub overflow_sub-text : goal.overflow_sub-text
+overflow_sub-text c =
+    omega (arith, ap length c.as_str-then-ends_line.ensures, simp length-append at (ap length c.in-Some.ensures.steps.0), c.loop-c.invariant.count)
+
+pub loop-c-smaller-then-ends_line : goal.loop-c-smaller-then-ends_line
+loop-c-smaller-then-ends_line c =
+    omega (arith, simp length-append at (ap length c.in-Some.ensures.steps.0), length-encode c.in-Some.c, len_utf8_bounds c.in-Some.c)
+
+pub loop-c-smaller : goal.loop-c-smaller
+loop-c-smaller c =
+    omega (
+      arith,
+      ap length c.chars-rest-else-ends_line.ensures.rest,
+      c.range_from.ensures.len,
+      ap length c.as_str-else-ends_line-2.ensures,
+      simp length-append at (ap length c.in-Some.ensures.steps.0),
+      length-encode c.in-Some.c,
+      len_utf8_bounds c.in-Some.c,
+    )
 
 -- a character that ends its line closes it
 pub loop-c-preserved-then-ends_line : goal.loop-c-preserved-then-ends_line
@@ -23,8 +49,7 @@ overflow_add-at-else-ends_line c =
     let scanned : IsScanned c.args.text.now c.as_str-else-ends_line.result.now c.loop-c.starts.items c.loop-c.begun (c.loop-c.at + 1) =
     rw c.as_str-else-ends_line.ensures (scan_open _ _ _ _ _ _ _ c.loop-c.invariant c.in-Some.ensures.steps.0 stays) in
     let run = c.plain_run-run.ensures in
-    let within = (scan_jump _ _ _ _ _ _ _ scanned run.cut run.plain run.count).count in
-    search rules
+    omega (arith, (scan_jump _ _ _ _ _ _ _ scanned run.cut run.plain run.count).count)
 
 pub loop-c-preserved : goal.loop-c-preserved
 loop-c-preserved c =

@@ -1,3 +1,4 @@
+use denote.Param.Always.{mut_next}
 use Rattle.std.proofs.Common.{IsSome, refl, sym, ◌∙◌}
 use Rattle.ariadne_base.specs.Cache.{held}
 use Rattle.ariadne_base.proofs.Lookups.{none-there, nothing-there}
@@ -69,3 +70,27 @@ returns-in-Err-keep-clause-called g c = λ none. (
   record { shown = c.args.id; shows = refl; called = rw (c.keep.ensures.function, ← c.self.view_is) c.call_mut.ensures },
   rw c.in-Ok.is (c.in-Err-keep.ensures.err c.args.id.now ∙ (rw (← c.self.view_is) at none)),
 )
+
+-- nothing is held under the id that the text is kept for
+pub keep-requires : goal.keep-requires
+keep-requires g c = none-there _ c.if-contains_key.ensures
+
+-- clones are as before
+pub invariant_of-self : goal.invariant_of-self
+invariant_of-self g c = c.self.invariant
+
+pub invariant_of-self-in-Ok : goal.invariant_of-self-in-Ok
+invariant_of-self-in-Ok g c = c.self.invariant
+
+-- after a call the function may be called again
+pub returns-in-Err-clause-again : goal.returns-in-Err-clause-again
+returns-in-Err-clause-again g c =
+    mut_next g.F.FnMut _ _ _ _ _ c.call_mut.ensures refl (rw (← c.self.view_is) at c.requires)
+
+pub returns-in-Ok-keep-clause-again : goal.returns-in-Ok-keep-clause-again
+returns-in-Ok-keep-clause-again g c =
+    mut_next g.F.FnMut _ _ _ _ _ c.call_mut.ensures (sym c.keep.ensures.function) (rw (← c.self.view_is) at c.requires)
+
+pub returns-in-Err-keep-clause-again : goal.returns-in-Err-keep-clause-again
+returns-in-Err-keep-clause-again g c =
+    mut_next g.F.FnMut _ _ _ _ _ c.call_mut.ensures (sym c.keep.ensures.function) (rw (← c.self.view_is) at c.requires)
