@@ -6,6 +6,7 @@ pub mod Feeds
 pub mod GccLists
 pub mod Handed
 pub mod LineBegins
+pub mod Loops
 pub mod OffsetLines
 pub mod Outcomes
 pub mod Passing
