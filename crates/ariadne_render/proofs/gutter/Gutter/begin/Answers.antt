@@ -1,20 +1,108 @@
-use Rattle.std.proofs.Common.{◌≡◌, ◌+◌, ◌*◌, ◌<◌, ◌≤◌, ◌++◌, [], false, inl, inr, length, map, take, replicate, ap, sym, ◌∙◌, arith, string_bytes, string_len}
+use Rattle.std.proofs.Common.{◌≡◌, ℕ, ◌+◌, ◌*◌, ◌^◌, ◌<◌, ◌≤◌, ◌++◌, List, [], ◌∷◌, false, get_or, refl, inl, inr, length, map, take, replicate, ap, sym, ◌∙◌, arith, string_bytes, string_len}
 use Rattle.std.specs.Prelude.{Result, Ok, Err, OnOk, is_ok, true}
 use Rattle.std.specs.String.{string_capacity}
 use Rattle.std.proofs.lemmas.Bool.{cases_lt, eq-eqb, eqb-true, true≢false}
-use Rattle.std.proofs.lemmas.List.{length-map, length-replicate, length-take-le}
+use Rattle.std.proofs.Math.Nat.{mul-le-mul_left}
+use Rattle.std.proofs.lemmas.List.{length-map, length-replicate, length-take-le, map_more, replicate_more, take_all}
 use Rattle.ariadne_base.specs.Locations.{upto}
 use Rattle.ariadne_picture.specs.declared.label_info.LabelInfo.{LabelInfo}
 use Rattle.ariadne_picture.specs.Pieces.{column_size, spaces}
 use Rattle.ariadne_render.specs.Gutters.{GutterFields, columns}
 use Rattle.ariadne_render.proofs.GutterState.{columns-none, columns-some, ready-none, ready-free}
 use Rattle.ariadne_render.proofs.gutter.Gutter.begin.Goals as goal
-use Rattle.ariadne_render.proofs.gutter.Gutter.begin.Goals.{then-is_empty, else-is_empty}
+use Rattle.ariadne_render.proofs.gutter.Gutter.begin.Goals.{Joined-is_empty, then-is_empty, else-is_empty}
 
 -- what holds on Ok holds where it is Ok
 on-ok : {T E P : Type 0} (r : Result T E) → is_ok r ≡ true → OnOk r P → P
 on-ok (Ok x) e p = p
 on-ok (Err y) e p = absurd (true≢false (sym e))
+
+-- what holds anyway holds on Ok
+anyway : {T E P : Type 0} (r : Result T E) → P → OnOk r P
+anyway (Ok x) p = p
+anyway (Err y) p = tt
+
+-- a column has at most two bytes, and there is at most one column more than labels
+small : (c : Joined-is_empty) → c.if-is_empty.columns * c.column_size-size.result < 2 ^ 64
+small c =
+    let few = mul-le-mul_left c.if-is_empty.columns c.column_size-size.ensures.few in
+    let some : c.if-is_empty.columns ≤ length c.args.labels.now + 1 = elim c.if-is_empty.branch [
+      | then-is_empty w ↦ omega (arith, w.columns-is)
+      | else-is_empty w ↦ omega (arith, w.columns-is)
+    ] in
+    omega (arith, few)
+
+pub overflow_mul-columns : goal.overflow_mul-columns
+overflow_mul-columns c = let h = small (goal.at.overflow_mul-columns c).Joined-is_empty in omega arith
+
+pub overflow_mul-columns-2 : goal.overflow_mul-columns-2
+overflow_mul-columns-2 c = let h = small (goal.at.overflow_mul-columns-2 c).Joined-is_empty in omega arith
+
+pub push_multiples-requires-clause-fits : goal.push_multiples-requires-clause-fits
+push_multiples-requires-clause-fits c = small (goal.at.push_multiples-requires-clause-fits c).Joined-is_empty
+
+-- nothing is there yet, and there is room
+pub push_multiples-requires-clause-room : goal.push_multiples-requires-clause-room
+push_multiples-requires-clause-room c = rw c.loop-label.invariant.starts c.in_ok-reserve-4.ensures.ok
+
+pub loop-label-init : goal.loop-label-init
+loop-label-init c = record {
+  positions = c.reserve.ensures.items ∙ c.clear.ensures.items;
+  positions_room = omega (arith, c.in_ok-reserve.ensures.ok);
+  bars = c.reserve-2.ensures.items ∙ c.clear-2.ensures.items;
+  bars_room = omega (arith, c.in_ok-reserve-2.ensures.ok);
+  page = refl;
+  text = refl;
+  starts = refl;
+}
+
+-- one label more
+pub push_reserved-requires : goal.push_reserved-requires
+push_reserved-requires c =
+    let kept = c.loop-label.invariant in
+    let first = take c.loop-label.label-index c.args.labels.now in
+    omega (
+      arith,
+      c.loop-label.self-inside.positions.ok.0,
+      ap length kept.positions,
+      length-map first (λ (a : LabelInfo). a.position),
+      length-take-le c.loop-label.label-index c.args.labels.now (omega arith),
+      kept.positions_room,
+    )
+
+pub push_reserved-requires-in-loop-label : goal.push_reserved-requires-in-loop-label
+push_reserved-requires-in-loop-label c =
+    let kept = c.loop-label.invariant in
+    omega (arith, c.loop-label.self-inside.bars.ok.0, ap length kept.bars, length-replicate c.loop-label.label-index false, kept.bars_room)
+
+mapped : (f : LabelInfo → ℕ) (now new : List ℕ) (xs : List LabelInfo) (i : ℕ) (d : LabelInfo) → i < length xs → now ≡ map f (take i xs)
+    → new ≡ now ++ f (get_or xs i d) ∷ [] → new ≡ map f (take (i + 1) xs)
+mapped f now new xs i d h e g = g ∙ ap (λ t. t ++ f (get_or xs i d) ∷ []) e ∙ sym (map_more f xs i d h)
+
+pub loop-label-preserved : goal.loop-label-preserved
+loop-label-preserved c =
+    let kept = c.loop-label.invariant in
+    record {
+      positions = mapped (λ (a : LabelInfo). a.position) c.loop-label.self-inside.positions.items _ c.args.labels.now c.loop-label.label-index _
+          c.loop-label-test.true kept.positions c.push_reserved.ensures.items;
+      positions_room = omega (arith, c.push_reserved.ensures.capacity, kept.positions_room);
+      bars = c.push_reserved-in-loop-label.ensures.items ∙ ap (λ t. t ++ false ∷ []) kept.bars ∙ replicate_more c.loop-label.label-index false;
+      bars_room = omega (arith, c.push_reserved-in-loop-label.ensures.capacity, kept.bars_room);
+      page = kept.page;
+      text = kept.text;
+      starts = kept.starts;
+    }
+
+-- all labels have their columns
+pub returns : goal.returns
+returns c =
+    let labels = c.args.labels.now in
+    let kept = c.loop-label.invariant in
+    let all : c.loop-label.label-index ≡ length labels = omega arith in
+    let page = ap (λ p. p.now) kept.page ∙ ap (λ (g : GutterFields). g.page) c.self.view_is in
+    let positions = kept.positions ∙ ap (map (λ (a : LabelInfo). a.position)) (take_all c.loop-label.label-index labels (omega arith)) in
+    let bars = kept.bars ∙ ap (λ n. replicate n false) all in
+    anyway c.push_blanks.result (λ i. record { page = page i; positions = positions i; bars = bars i })
 
 -- where there is no memory for the positions nothing is there
 pub invariant_of-self : goal.invariant_of-self
