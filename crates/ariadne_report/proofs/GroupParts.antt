@@ -1,7 +1,7 @@
 -- A group as it is drawn: what its first label tells of it, and its rows, part by part.
 use Rattle.std.proofs.Common.{◌≡◌, ℕ, ◌+◌, ◌<◌, ◌≤◌, min, ◌==◌, ◌||◌, List, [], ◌∷◌, Option, Some, None, length, get_or}
 use Rattle.std.proofs.Common.{refl, sym, ap, ◌∙◌, subst, arith, inl, inr, Bor}
-use Rattle.std.specs.Prelude.{chars, codes, nat_lt, option_and_then, slice_get, unwrap_or}
+use Rattle.std.specs.Prelude.{IsSome, chars, codes, nat_lt, option_and_then, slice_get, unwrap_or}
 use Rattle.std.specs.Option.{option_copied}
 use Rattle.std.proofs.lemmas.Bool.{cases_Bool, or_parts, ltb-false}
 use Rattle.std.proofs.lemmas.Option.{slice_get-get_or}
@@ -49,6 +49,11 @@ module _ {S : Type 0} (config : ConfigFields) (source : Listing) (k : ℕ) (labe
             start_within start (omega arith) (offset_in_chars config.index_type (chars source.text) start)
             (offset_in_chars config.index_type (chars source.text) (min end size)) refl (rw inside at e)
       ]
+
+-- what has a copy is there
+copied_some : (o : Option (Bor Listing)) (source : Listing) → option_copied o ≡ Some source → IsSome o
+copied_some None source e = cc
+copied_some (Some a) source e = refl
 
 -- a text, or another in place of none
 pub copied_or : (o : Option (Bor (List ℕ))) (b : Bor (List ℕ)) → (unwrap_or o b).now ≡ unwrap_or (option_copied o) b.now
@@ -98,6 +103,19 @@ module _ {S Id : Type 0} (w : World S Id) (r : ReportFields S) where
             subst (λ (s : Listing). info.start ≤ length (chars s.text)) over
             (accepted_start r.config d.source info.position d.label info (w.start_of d.label.span) (w.end_of d.label.span) d.accepted);
       }
+
+  -- a source is found for the first label
+  pub first_found : (labels : List LabelInfo) (nothing : LabelInfo) → 0 < length labels → AreDrawn w r labels
+      → (all : List (LabelFields S)) (x : LabelFields S) → all ≡ r.labels → x ≡ get_or all (get_or labels 0 nothing).position x
+      → (id : Id) → id ≡ w.id_of x.span → (o : Option (Bor Listing)) → option_copied o ≡ w.source_of id → IsSome o
+  first_found labels nothing some drawn all x are at id is o get =
+      let info : LabelInfo = get_or labels 0 nothing in
+      let d : IsAccepted w r info = all_at (IsAccepted w r) labels 0 nothing some drawn in
+      let low : info.position < length r.labels =
+      all_at (λ (a : LabelInfo). a.position < length r.labels) labels 0 nothing some (drawn_there w r labels drawn) in
+      let label : Some d.label ≡ Some x = sym d.there ∙ label_there w r info.position all x are at low in
+      let same : x ≡ d.label = cc in
+      copied_some o d.source (get ∙ ap w.source_of is ∙ ap (λ (y : LabelFields S). w.source_of (w.id_of y.span)) same ∙ d.is_held)
 
   -- what a group is called
   pub section_name : (labels : List LabelInfo) (id : Id) → group_id w r labels ≡ Some id → (o : Option (Bor (List ℕ)))

@@ -8,13 +8,29 @@ use Rattle.ariadne_picture.specs.Groups.{printed_number}
 use Rattle.ariadne_picture.specs.Report.{switches_of}
 use Rattle.ariadne_report.specs.CacheReads.{world}
 use Rattle.ariadne_report.proofs.Grouping.{some_label}
-use Rattle.ariadne_report.proofs.GroupParts.{first_is}
-use Rattle.ariadne_report.proofs.GroupingSources.{last_inside, last_told, one_source}
+use Rattle.ariadne_report.proofs.GroupParts.{first_found, first_is}
+use Rattle.ariadne_report.proofs.GroupingSources.{first_there, last_inside, last_told, one_source}
 use Rattle.ariadne_report.proofs.groups.last_number.Goals as goal
 
 -- the first label is there
 pub bounds-group-0 : goal.bounds-group-0
 bounds-group-0 g c = some_label _ c.args.group.now c.requires.group.whole
+
+-- the first label is one of the report, and its source is held
+pub bounds-labels-first : goal.bounds-labels-first
+bounds-labels-first g c =
+    let w = world g.S.Span.source_of g.S.Span.start_of g.S.Span.end_of g.S.SourceId.PartialEq.eq (g.C.Cache.names c.args.cache.now)
+    (g.C.Cache.contents c.args.cache.now) in
+    rw c.labels.ensures (first_there w c.args.report.now c.args.group.now _ c.requires.group)
+
+pub unwrap-source-requires : goal.unwrap-source-requires
+unwrap-source-requires g c =
+    let w = world g.S.Span.source_of g.S.Span.start_of g.S.Span.end_of g.S.SourceId.PartialEq.eq (g.C.Cache.names c.args.cache.now)
+    (g.C.Cache.contents c.args.cache.now) in
+    let group = c.args.group.now in
+    first_found w c.args.report.now group _ (some_label _ group c.requires.group.whole) c.requires.group.drawn c.labels.result.now
+    c.index-labels-first.result c.labels.ensures c.index-labels-first.is c.source-id.result.now
+    (c.source-id.ensures ∙ ap g.S.Span.source_of c.span.ensures.span) c.get.result c.get.ensures
 
 -- a line of the source has a number that fits
 pub overflow_add-result : goal.overflow_add-result

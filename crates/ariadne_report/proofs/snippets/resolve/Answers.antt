@@ -9,8 +9,8 @@ use Rattle.ariadne_picture.specs.Canvas.{header_offset}
 use Rattle.ariadne_layout.specs.Snippets.{AreOverLines}
 use Rattle.ariadne_report.specs.CacheReads.{world}
 use Rattle.ariadne_report.proofs.Grouping.{some_label}
-use Rattle.ariadne_report.proofs.GroupParts.{IsFirst, first_is, section_is, section_name}
-use Rattle.ariadne_report.proofs.GroupingSources.{one_source, over_group}
+use Rattle.ariadne_report.proofs.GroupParts.{IsFirst, first_found, first_is, section_is, section_name}
+use Rattle.ariadne_report.proofs.GroupingSources.{first_there, one_source, over_group}
 use Rattle.ariadne_report.proofs.HeaderLocations.{other_offset, own_header, own_within}
 use Rattle.ariadne_report.proofs.snippets.resolve.Given.{Over}
 use Rattle.ariadne_report.proofs.snippets.resolve.Goals.{After-header_offset-offset}
@@ -49,6 +49,22 @@ first g c =
     c.index-labels-first.result c.labels.ensures c.index-labels-first.is c.source-id.result.now
     (c.source-id.ensures ∙ ap g.S.Span.source_of c.span.ensures.span) (option_copied c.get.result) c.get.ensures c.unwrap-source.result.now
     (ap option_copied c.unwrap-source.ensures)
+
+-- the first label is one of the report, and its source is held
+pub bounds-labels-first : goal.bounds-labels-first
+bounds-labels-first g c =
+    let w = world g.S.Span.source_of g.S.Span.start_of g.S.Span.end_of g.S.SourceId.PartialEq.eq (g.C.Cache.names c.args.cache.now)
+    (g.C.Cache.contents c.args.cache.now) in
+    rw c.labels.ensures (first_there w c.args.report.now c.args.group.now _ c.requires.group)
+
+pub unwrap-source-requires : goal.unwrap-source-requires
+unwrap-source-requires g c =
+    let w = world g.S.Span.source_of g.S.Span.start_of g.S.Span.end_of g.S.SourceId.PartialEq.eq (g.C.Cache.names c.args.cache.now)
+    (g.C.Cache.contents c.args.cache.now) in
+    let group = c.args.group.now in
+    first_found w c.args.report.now group _ (some_label _ group c.requires.group.whole) c.requires.group.drawn c.labels.result.now
+    c.index-labels-first.result c.labels.ensures c.index-labels-first.is c.source-id.result.now
+    (c.source-id.ensures ∙ ap g.S.Span.source_of c.span.ensures.span) c.get.result c.get.ensures
 
 -- where the report's own span is over its source, that is held
 own : (g : Over) (c : After-header_offset-offset g)
